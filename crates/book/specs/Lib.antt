@@ -1,0 +1,11 @@
+pub mod Amending
+pub mod Books
+pub mod Checks
+pub mod Classes
+pub mod Divisors
+pub mod Entering
+pub mod Held
+pub mod Hyperperiod
+pub mod Ledger
+pub mod Refusals
+pub mod Rules

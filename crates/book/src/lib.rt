@@ -1,0 +1,9 @@
+// The book of tasks: what a planner is given, kept so that no book that breaks a rule can exist.
+pub mod book;
+mod multiple;
+pub mod refusal;
+pub mod refusal_text;
+pub mod row;
+pub mod row_edits;
+mod table;
+pub mod task;
