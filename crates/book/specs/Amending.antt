@@ -6,7 +6,7 @@ use lib.Dec.{eqb, leb}
 use lib.ListN.{length, set}
 use Rattle.book.specs.Checks.{Check, judged, outside}
 use Rattle.book.specs.Entering.{rises, taken}
-use Rattle.book.specs.Ledger.{TaskRecord}
+use Rattle.book.specs.Ledger.{TaskRecord, task-record}
 use Rattle.book.specs.declared.refusal.Refusal.{Refusal}
 use Rattle.book.specs.declared.refusal.Refusal.the-variants as r
 use Rattle.std.specs.declared.result.Result.{Result}
@@ -22,7 +22,7 @@ row-of n [] = []
 row-of n (t ∷ ts) = cond (eqb (t .number) n) (t .times) (row-of n ts)
 
 abbrev pub with-time : ℕ → ℕ → TaskRecord → TaskRecord
-with-time class time t = record { number = t .number; period = t .period; deadline = t .deadline; times = set (t .times) class time }
+with-time class time t = task-record (t .number) (t .period) (t .deadline) (set (t .times) class time)
 
 -- the time put at the class of the task of this number
 abbrev pub amended : ℕ → ℕ → ℕ → List TaskRecord → List TaskRecord

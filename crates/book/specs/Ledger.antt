@@ -10,6 +10,9 @@ pub record TaskRecord : Type 0 where
   pub deadline : ℕ
   pub times : List ℕ
 
+abbrev pub task-record : ℕ → ℕ → ℕ → List ℕ → TaskRecord
+task-record n p d ts = record { number = n; period = p; deadline = d; times = ts }
+
 -- The cache size in sets, and the tasks in ascending order of number.
 pub record Ledger : Type 0 where
   pub cache : ℕ

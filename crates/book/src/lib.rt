@@ -5,5 +5,7 @@ pub mod refusal;
 pub mod refusal_text;
 pub mod row;
 pub mod row_edits;
+mod slots;
 mod table;
 pub mod task;
+mod task_edits;
