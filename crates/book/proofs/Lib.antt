@@ -1,7 +1,11 @@
+pub mod Amends
 pub mod Answered
+pub mod Moves
 pub mod Multiples
 pub mod Periods
+pub mod Places
 pub mod Rows
 pub mod Same
+pub mod Tables
 pub mod Tasks
 pub mod Turns

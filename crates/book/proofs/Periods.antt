@@ -6,7 +6,7 @@ use native.Mathlib.Omega.{arith}
 use lib.ListN.{length, getD, take, drop}
 use lib.Seq.{drop-cons}
 use Rattle.std.specs.Holes.{inserted, removed}
-use Rattle.std.proofs.shelf.Lists.{append-nil, map-append, map-more, take-append-drop}
+use Rattle.std.proofs.shelf.Lists.{append-nil, length-take-le, map-append, map-more, take-append-drop}
 use Rattle.book.specs.Divisors.{IsLcm}
 use Rattle.book.specs.Held.{period-in, periods}
 use Rattle.book.specs.Hyperperiod.{hyperperiod}
@@ -65,3 +65,10 @@ removed-from ts i d lt =
 pub period-removed : (ts : List Task) (i : ℕ) → i < length ts → hyperperiod (map period-in (removed ts i)) ≤ hyperperiod (map period-in ts)
 period-removed [] i lt = absurd (omega arith)
 period-removed (t ∷ ts) i lt = removed-from (t ∷ ts) i t lt
+
+-- the tasks that are left of a front of which one was taken out
+pub left-within : (xs new : List Task) (n at : ℕ) → n ≤ length xs → at < n → take (n - 1) new ≡ removed (take n xs) at
+    → hyperperiod (periods xs n) ≤ 10000000000 → hyperperiod (periods new (n - 1)) ≤ 10000000000
+left-within xs new n at le lt e h =
+    let inside : at < length (take n xs) = omega (arith, length-take-le n xs le) in
+    subst (λ ts. hyperperiod (map period-in ts) ≤ 10000000000) (sym e) (omega (arith, period-removed (take n xs) at inside))

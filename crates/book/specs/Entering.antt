@@ -41,10 +41,14 @@ abbrev pub room-checks : TaskRecord → List TaskRecord → List Check
 room-checks t ts =
     (leb 16 (length ts), r.Full) ∷ (ltb 10000000000 (hyperperiod (t .period ∷ map period-of ts)), r.Cycle) ∷ []
 
+-- a task beside the others: its number among theirs, then the room for it
+abbrev pub clash-checks : Check → TaskRecord → List TaskRecord → List Check
+clash-checks clash t ts = clash ∷ room-checks t ts
+
 -- Every check on a new task, in order. `clash` is the check on its number among the others: it alone differs between
 -- entering a task and reading one from a sheet.
 abbrev pub enter-checks : Check → TaskRecord → List TaskRecord → List Check
-enter-checks clash t ts = task-checks t ++ clash ∷ room-checks t ts
+enter-checks clash t ts = task-checks t ++ clash-checks clash t ts
 
 -- the number is in the book
 abbrev pub taken : ℕ → List TaskRecord → Bool
@@ -61,6 +65,13 @@ abbrev pub last-number : List TaskRecord → ℕ
 last-number [] = 0
 last-number (t ∷ []) = t .number
 last-number (t ∷ u ∷ us) = last-number (u ∷ us)
+
+-- one task more among the others: the checks of its number, then of the room for it
+abbrev pub enter-among : TaskRecord → List TaskRecord → Result (List TaskRecord) Refusal
+enter-among t ts = judged (clash-checks (taken (t .number) ts, r.Taken) t ts) (entered t ts)
+
+abbrev pub append-last : TaskRecord → List TaskRecord → Result (List TaskRecord) Refusal
+append-last t ts = judged (clash-checks (leb (t .number) (last-number ts), r.Order) t ts) (ts ++ t ∷ [])
 
 -- the tasks after one is entered among them, or the refusal
 abbrev pub enter-tasks : TaskRecord → List TaskRecord → Result (List TaskRecord) Refusal

@@ -7,5 +7,6 @@ pub mod Entering
 pub mod Held
 pub mod Hyperperiod
 pub mod Ledger
+pub mod Places
 pub mod Refusals
 pub mod Rules

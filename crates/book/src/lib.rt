@@ -7,5 +7,6 @@ pub mod row;
 pub mod row_edits;
 mod slots;
 mod table;
+mod table_edits;
 pub mod task;
 mod task_edits;
