@@ -35,3 +35,10 @@ refused-by [] ds x done r e = let z : _≡_ {A = ℕ} 0 1 = cc in absurd (omega 
 refused-by (c ∷ cs) ds x done r e =
     let P : Bool → Type 0 = λ b. cond b (Err (c .1)) (judged cs x) ≡ Err r → cond b (Err (c .1)) (judged (cs ++ ds) done) ≡ Err r in
     (elim (c .0) as P [ true ↦ λ h. cc | false ↦ λ h. refused-by cs ds x done r h ]) e
+
+-- what is done is what was to be done
+pub done-same : {A : Type 0} (cs : List Check) (x y : A) → judged cs x ≡ Ok y → y ≡ x
+done-same [] x y e = cc
+done-same (c ∷ cs) x y e =
+    let P : Bool → Type 0 = λ b. cond b (Err (c .1)) (judged cs x) ≡ Ok y → y ≡ x in
+    (elim (c .0) as P [ true ↦ λ h. let z : _≡_ {A = ℕ} 0 1 = cc in absurd (omega arith) | false ↦ λ h. done-same cs x y h ]) e

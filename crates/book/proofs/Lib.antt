@@ -1,5 +1,6 @@
 pub mod Amends
 pub mod Answered
+pub mod Books
 pub mod Moves
 pub mod Multiples
 pub mod Periods

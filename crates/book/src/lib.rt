@@ -1,5 +1,6 @@
 // The book of tasks: what a planner is given, kept so that no book that breaks a rule can exist.
 pub mod book;
+pub mod book_edits;
 mod multiple;
 pub mod refusal;
 pub mod refusal_text;
