@@ -1,6 +1,7 @@
 pub mod Amends
 pub mod Answered
 pub mod Books
+pub mod Keeps
 pub mod Moves
 pub mod Multiples
 pub mod Periods

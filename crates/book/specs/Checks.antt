@@ -6,6 +6,7 @@ use mathlib.Core.Path.{_≡_}
 use lib.Dec.{ltb}
 use lib.ListN.{length, take, drop}
 use Rattle.book.specs.declared.refusal.Refusal.{Refusal}
+use Rattle.book.specs.declared.refusal.Refusal.the-variants as r
 use Rattle.std.specs.declared.result.Result.{Result}
 use Rattle.std.specs.declared.result.Result.the-variants.{Ok, Err}
 
@@ -21,6 +22,10 @@ judged (check ∷ later) done = cond (check .0) (Err (check .1)) (judged later d
 -- a number that is not `low` to `high`
 abbrev pub outside : ℕ → ℕ → ℕ → Bool
 outside low high x = ltb x low || ltb high x
+
+-- the buffer is shorter than what is to be put into it
+abbrev pub short-check : {X Y : Type 0} → List X → List Y → Check
+short-check buffer out = (ltb (length buffer) (length out), r.Short)
 
 -- A call that makes a value gave the answer, where a value stands for `view` of it.
 abbrev pub Made : {S V : Type 0} → (S → V) → Result V Refusal → Result S Refusal → Type 0

@@ -6,6 +6,7 @@ pub mod Divisors
 pub mod Entering
 pub mod Held
 pub mod Hyperperiod
+pub mod Keeping
 pub mod Ledger
 pub mod Places
 pub mod Refusals

@@ -2,6 +2,8 @@
 ghost use mathlib.Core.Path.{_≡_};
 ghost use lib.ListN.{getD, set};
 ghost use Rattle.book.specs.Amending.{amend-checks};
+ghost use Prim.Native.Nat.{_≤_};
+ghost use Rattle.book.specs.Classes.{time-at};
 ghost use Rattle.book.specs.Checks.{Did, Made, judged};
 ghost use Rattle.book.specs.Entering.{any-outside, rises, row-checks};
 ghost use Rattle.book.specs.Held.{times-in};
@@ -67,6 +69,15 @@ impl Row {
         ensures { λ r. ⌜ now r ≡ times-in (now (self .entry)) ⌝ }
     {
         &self.times[0..self.count]
+    }
+
+    /// The time in a partition of this class, 0 where the row has none.
+    pub(crate) fn time(&self, class: u8) -> u32
+        ensures value { λ r. ⌜ r ≡ time-at (times-in (now (self .entry))) class ⌝ }
+        ensures bound { λ r. ⌜ r ≤ 1000000 ⌝ }
+    {
+        let class = class as usize;
+        if class < self.count { self.times[class] } else { 0 }
     }
 
     /// Puts `time` at `class`, if the row as it would be keeps the rules.
