@@ -76,13 +76,13 @@ module _ (old : Table) (i : ℕ) (d : Task) (n class time : ℕ) (f : Found old 
       ≡ done-by (set (records-in old) i) (judged (amend-checks (record-of (getD (old .tasks) i d) .times) class time) (with-time class time (record-of (getD (old .tasks) i d))))
   answer-is =
       let row : row-of n (records-in old) ≡ record-of (getD (old .tasks) i d) .times =
-          row-at (take (old .count) (old .tasks)) i d n inside (f .1) (f .2) ∙ ap (λ (t : Task). record-of t .times) slot in
+      row-at (take (old .count) (old .tasks)) i d n inside (f .1) (f .2) ∙ ap (λ (t : Task). record-of t .times) slot in
       let done : amended n class time (records-in old) ≡ set (records-in old) i (with-time class time (record-of (getD (old .tasks) i d))) =
-          amended-at (take (old .count) (old .tasks)) i d n class time inside (f .1) (f .2)
-          ∙ ap (λ (t : Task). set (records-in old) i (with-time class time (record-of t))) slot in
+      amended-at (take (old .count) (old .tasks)) i d n class time inside (f .1) (f .2)
+      ∙ ap (λ (t : Task). set (records-in old) i (with-time class time (record-of t))) slot in
       rw (taken-there old n i f)
       ((λ j. judged (amend-checks (row j) class time) (done j))
-       ∙ judged-by (set (records-in old) i) (amend-checks (record-of (getD (old .tasks) i d) .times) class time) (with-time class time (record-of (getD (old .tasks) i d))))
+      ∙ judged-by (set (records-in old) i) (amend-checks (record-of (getD (old .tasks) i d) .times) class time) (with-time class time (record-of (getD (old .tasks) i d))))
 
 records-set : (ts : List Task) (n i : ℕ) (t : Task) → records (set ts i t) n ≡ set (records ts n) i (record-of t)
 records-set ts n i t = ap (map record-of) (take-set-in n ts i t) ∙ map-set record-of (take n ts) i t
@@ -90,14 +90,15 @@ records-set ts n i t = ap (map record-of) (take-set-in n ts i t) ∙ map-set rec
 pub table-amended : (old new : Table) (i : ℕ) (d t : Task) (n class time : ℕ) (res : Result (Unit {0}) Refusal)
     → Found old n (Ok i) → new .tasks ≡ set (old .tasks) i t → new .count ≡ old .count → new .cycle ≡ old .cycle
     → Did record-of (getD (old .tasks) i d) t
-        (judged (amend-checks (record-of (getD (old .tasks) i d) .times) class time) (with-time class time (record-of (getD (old .tasks) i d)))) res
+    (judged (amend-checks (record-of (getD (old .tasks) i d) .times) class time) (with-time class time (record-of (getD (old .tasks) i d)))) res
     → Did records-in old new (amend-tasks n class time (records-in old)) res
 table-amended old new i d t n class time (Ok u) f p q s h =
     answer-is old i d n class time f ∙ ap (done-by (set (records-in old) i)) h
     ∙ ap Ok (sym ((λ j. records (p j) (q j)) ∙ records-set (old .tasks) (old .count) i t))
-table-amended old new i d t n class time (Err e) f p q s h =
-    ( answer-is old i d n class time f ∙ ap (done-by (set (records-in old) i)) (h .0)
-    , table-same new old (p ∙ ap (set (old .tasks) i) (h .1) ∙ set-getD (old .tasks) i d) q s)
+table-amended old new i d t n class time (Err e) f p q s h = (
+  answer-is old i d n class time f ∙ ap (done-by (set (records-in old) i)) (h .0),
+  table-same new old (p ∙ ap (set (old .tasks) i) (h .1) ∙ set-getD (old .tasks) i d) q s,
+)
 
 pub amend-unknown : (t : Table) (n class time i : ℕ) → Found t n (Err i) → amend-tasks n class time (records-in t) ≡ Err r.Unknown
 amend-unknown t n class time i f = rw (taken-nowhere t n i f)

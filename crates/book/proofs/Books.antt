@@ -50,8 +50,8 @@ module _ (clash : TaskRecord → List TaskRecord → Check) (placed : TaskRecord
   book-took old new t task r p m d =
       let ts = records-in (old .table) in
       let e : among (record-of task) ts ≡ taken-in t ts =
-          ap (λ u. among u ts) (done-same (task-checks t) t (record-of task) m)
-          ∙ sym (passed-on (task-checks t) (clash-checks (clash t ts) t ts) t (placed t ts) (record-of task) m) in
+      ap (λ u. among u ts) (done-same (task-checks t) t (record-of task) m)
+      ∙ sym (passed-on (task-checks t) (clash-checks (clash t ts) t ts) t (placed t ts) (record-of task) m) in
       book-did old new (taken-in t ts) r p (subst (λ a. Did records-in (old .table) (new .table) a r) e d)
 
   pub book-refused : (old : Book) (t : TaskRecord) (e : Refusal) → judged (task-checks t) t ≡ Err e

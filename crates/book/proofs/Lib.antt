@@ -1,7 +1,9 @@
 pub mod Amends
 pub mod Answered
 pub mod Books
+pub mod ClassLists
 pub mod Keeps
+pub mod ListCalls
 pub mod Moves
 pub mod Multiples
 pub mod Periods

@@ -32,32 +32,32 @@ pub ascending-removed : (ys : List ℕ) (i : ℕ) → i < length ys → Ascendin
 ascending-removed ys i lt up k h =
     let long : length (removed ys i) + 1 ≡ length ys = length-removed ys i lt in
     elim (cases-lt (k + 1) i) [
-      inl a ↦ let b : k < i = omega arith in
-              rw (getD-removed-below ys i 0 k b lt) (rw (getD-removed-below ys i 0 (k + 1) a lt) (up k (omega arith)))
-    | inr a ↦ elim (cases-lt k i) [
-          inl b ↦ rw (getD-removed-below ys i 0 k b lt) (rw (getD-removed-above ys i 0 (k + 1) a lt) (omega (arith, up k (omega arith), up (k + 1) (omega arith))))
+      | inl a ↦ let b : k < i = omega arith in
+          rw (getD-removed-below ys i 0 k b lt) (rw (getD-removed-below ys i 0 (k + 1) a lt) (up k (omega arith)))
+      | inr a ↦ elim (cases-lt k i) [
+        | inl b ↦ rw (getD-removed-below ys i 0 k b lt) (rw (getD-removed-above ys i 0 (k + 1) a lt) (omega (arith, up k (omega arith), up (k + 1) (omega arith))))
         | inr b ↦ rw (getD-removed-above ys i 0 k b lt) (rw (getD-removed-above ys i 0 (k + 1) a lt) (up (k + 1) (omega arith)))
-        ]
+      ]
     ]
 
 pub ascending-inserted : (ys : List ℕ) (i n : ℕ) → i ≤ length ys → Ascending ys → ((k : ℕ) → k < i → getD ys k 0 < n) → (i < length ys → n < getD ys i 0) → Ascending (inserted ys i n)
 ascending-inserted ys i n le up below above k h =
     let long : length (inserted ys i n) ≡ length ys + 1 = length-inserted ys i n le in
     elim (cases-order (k + 1) i) [
-      inl a ↦ let b : k < i = omega arith in
-              rw (getD-inserted-below ys i n 0 k b le) (subst (λ j. getD ys k 0 < getD (inserted ys i n) j 0) (sym a) (rw (getD-inserted-at ys i n 0 le) (below k b)))
-    | inr o ↦ elim o [
-          inl a ↦ let b : k < i = omega arith in
-                  rw (getD-inserted-below ys i n 0 k b le) (rw (getD-inserted-below ys i n 0 (k + 1) a le) (up k (omega arith)))
+      | inl a ↦ let b : k < i = omega arith in
+          rw (getD-inserted-below ys i n 0 k b le) (subst (λ j. getD ys k 0 < getD (inserted ys i n) j 0) (sym a) (rw (getD-inserted-at ys i n 0 le) (below k b)))
+      | inr o ↦ elim o [
+        | inl a ↦ let b : k < i = omega arith in
+            rw (getD-inserted-below ys i n 0 k b le) (rw (getD-inserted-below ys i n 0 (k + 1) a le) (up k (omega arith)))
         | inr a ↦ let b : i ≤ k = omega arith in
-                  rw (getD-inserted-above ys i n 0 k b le)
-                  (elim (cases-eq k i) [
-                     inl e ↦ subst (λ j. getD (inserted ys i n) j 0 < getD ys j 0) (sym e) (rw (getD-inserted-at ys i n 0 le) (above (omega arith)))
-                   | inr e ↦ let c : i ≤ k - 1 = omega arith in
-                             let step : k - 1 + 1 ≡ k = omega arith in
-                             subst (λ j. getD (inserted ys i n) j 0 < getD ys j 0) step (rw (getD-inserted-above ys i n 0 (k - 1) c le) (up (k - 1) (omega arith)))
-                   ])
-        ]
+            rw (getD-inserted-above ys i n 0 k b le)
+            (elim (cases-eq k i) [
+              | inl e ↦ subst (λ j. getD (inserted ys i n) j 0 < getD ys j 0) (sym e) (rw (getD-inserted-at ys i n 0 le) (above (omega arith)))
+              | inr e ↦ let c : i ≤ k - 1 = omega arith in
+                  let step : k - 1 + 1 ≡ k = omega arith in
+                  subst (λ j. getD (inserted ys i n) j 0 < getD ys j 0) step (rw (getD-inserted-above ys i n 0 (k - 1) c le) (up (k - 1) (omega arith)))
+            ])
+      ]
     ]
 
 -- the first task of a number taken out of its place is the task struck out

@@ -23,7 +23,7 @@ pub period-more : (ts : List Task) (i : ℕ) (t : Task) (w l : ℕ) → i < leng
     → IsLcm (t .period) w l → l ≡ hyperperiod (periods ts (i + 1))
 period-more ts i t w l lt e h is =
     let one : periods ts (i + 1) ≡ periods ts i ++ t .period ∷ [] =
-        map-more period-in ts i t lt ∙ ap (λ (u : Task). periods ts i ++ u .period ∷ []) (sym e) in
+    map-more period-in ts i t lt ∙ ap (λ (u : Task). periods ts i ++ u .period ∷ []) (sym e) in
     let same : w ≡ hyperperiod (periods ts i ++ []) = h ∙ ap hyperperiod (sym (append-nil (periods ts i))) in
     hyperperiod-one-more (periods ts i) [] (t .period) l (subst AllPositive one (positive (take (i + 1) ts))) (subst (λ x. IsLcm (t .period) x l) same is)
     ∙ ap hyperperiod (sym one)
@@ -32,7 +32,7 @@ period-more ts i t w l lt e h is =
 pub period-front : (ts : List Task) (i : ℕ) → hyperperiod (periods ts i) ≤ hyperperiod (map period-in ts)
 period-front ts i =
     let e : periods ts i ++ map period-in (drop i ts) ≡ map period-in ts =
-        sym (map-append period-in (take i ts) (drop i ts)) ∙ ap (map period-in) (take-append-drop i ts) in
+    sym (map-append period-in (take i ts) (drop i ts)) ∙ ap (map period-in) (take-append-drop i ts) in
     subst (λ xs. hyperperiod (periods ts i) ≤ hyperperiod xs) e
     (hyperperiod-front (periods ts i) (map period-in (drop i ts)) (subst AllPositive (sym e) (positive ts)))
 
@@ -41,9 +41,9 @@ pub period-inserted : (ts : List Task) (i : ℕ) (t : Task) (l : ℕ) → IsLcm 
     → l ≡ hyperperiod (map period-in (inserted ts i t))
 period-inserted ts i t l is =
     let e : map period-in (inserted ts i t) ≡ map period-in (take i ts) ++ t .period ∷ map period-in (drop i ts) =
-        map-append period-in (take i ts) (t ∷ drop i ts) in
+    map-append period-in (take i ts) (t ∷ drop i ts) in
     let whole : map period-in ts ≡ map period-in (take i ts) ++ map period-in (drop i ts) =
-        ap (map period-in) (sym (take-append-drop i ts)) ∙ map-append period-in (take i ts) (drop i ts) in
+    ap (map period-in) (sym (take-append-drop i ts)) ∙ map-append period-in (take i ts) (drop i ts) in
     hyperperiod-one-more (map period-in (take i ts)) (map period-in (drop i ts)) (t .period) l
     (subst AllPositive e (positive (inserted ts i t)))
     (subst (λ xs. IsLcm (t .period) (hyperperiod xs) l) whole is)
@@ -53,14 +53,14 @@ period-inserted ts i t l is =
 removed-from : (ts : List Task) (i : ℕ) (d : Task) → i < length ts → hyperperiod (map period-in (removed ts i)) ≤ hyperperiod (map period-in ts)
 removed-from ts i d lt =
     let whole : map period-in (take i ts) ++ getD ts i d .period ∷ map period-in (drop (suc i) ts) ≡ map period-in ts =
-        sym (map-append period-in (take i ts) (getD ts i d ∷ drop (suc i) ts))
-        ∙ ap (λ xs. map period-in (take i ts ++ xs)) (sym (drop-cons ts i d lt))
-        ∙ ap (map period-in) (take-append-drop i ts) in
+    sym (map-append period-in (take i ts) (getD ts i d ∷ drop (suc i) ts))
+    ∙ ap (λ xs. map period-in (take i ts ++ xs)) (sym (drop-cons ts i d lt))
+    ∙ ap (map period-in) (take-append-drop i ts) in
     let less : map period-in (removed ts i) ≡ map period-in (take i ts) ++ map period-in (drop (suc i) ts) =
-        map-append period-in (take i ts) (drop (suc i) ts) in
+    map-append period-in (take i ts) (drop (suc i) ts) in
     subst (λ xs. hyperperiod xs ≤ hyperperiod (map period-in ts)) (sym less)
     (subst (λ xs. hyperperiod (map period-in (take i ts) ++ map period-in (drop (suc i) ts)) ≤ hyperperiod xs) whole
-        (hyperperiod-less (map period-in (take i ts)) (map period-in (drop (suc i) ts)) (getD ts i d .period) (subst AllPositive (sym whole) (positive ts))))
+    (hyperperiod-less (map period-in (take i ts)) (map period-in (drop (suc i) ts)) (getD ts i d .period) (subst AllPositive (sym whole) (positive ts))))
 
 pub period-removed : (ts : List Task) (i : ℕ) → i < length ts → hyperperiod (map period-in (removed ts i)) ≤ hyperperiod (map period-in ts)
 period-removed [] i lt = absurd (omega arith)

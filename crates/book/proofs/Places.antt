@@ -54,11 +54,11 @@ ascends xs i k up lt h =
 nowhere : (t : Table) (n at : ℕ) → Between t n at → (k : ℕ) → k < t .count → number-at t k ≡ n → ⊥
 nowhere t n at b k h q =
     elim (cases-lt k at) [
-      inl c ↦ omega (arith, b .1 k c)
-    | inr c ↦ elim (cases-eq at k) [
-          inl e ↦ omega (arith, b .2 (omega arith), ap (number-at t) e)
+      | inl c ↦ omega (arith, b .1 k c)
+      | inr c ↦ elim (cases-eq at k) [
+        | inl e ↦ omega (arith, b .2 (omega arith), ap (number-at t) e)
         | inr e ↦ omega (arith, b .2 (omega arith), ascends (numbers (t .tasks) (t .count)) at k (t .ascending) (omega arith) (omega (arith, numbers-long t)))
-        ]
+      ]
     ]
 
 -- whether the ledger's list has a number
@@ -106,11 +106,12 @@ pub last-slot : (t : Table) → last-number (records-in t) ≡ number-at t (t .c
 last-slot t = last-at (take (t .count) (t .tasks)) ∙ ap (λ n. number-at t (n - 1)) (long t)
 
 pub behind-last : (t : Table) (n : ℕ) → last-number (records-in t) < n → Between t n (t .count)
-behind-last t n lt =
-    ( omega arith
-    , (λ k h.
-        elim (cases-eq k (t .count - 1)) [
-          inl e ↦ omega (arith, last-slot t, ap (number-at t) e)
+behind-last t n lt = (
+  omega arith,
+  (λ k h.
+      elim (cases-eq k (t .count - 1)) [
+        | inl e ↦ omega (arith, last-slot t, ap (number-at t) e)
         | inr e ↦ omega (arith, last-slot t, ascends (numbers (t .tasks) (t .count)) k (t .count - 1) (t .ascending) (omega arith) (omega (arith, numbers-long t)))
-        ])
-    , λ h. omega arith)
+      ]),
+  λ h. omega arith,
+)

@@ -68,8 +68,8 @@ rises-before xs i pos lt h =
 pub falling-more : (xs : List ℕ) (i : ℕ) → 1 ≤ i → Falling xs i → getD xs i 0 ≤ getD xs (i - 1) 0 → Falling xs (i + 1)
 falling-more xs i pos f h k lt =
     elim (cases-eq (k + 1) i) [
-      inl e ↦ let b : k ≡ i - 1 = omega arith in subst (λ j. getD xs (k + 1) 0 ≤ getD xs j 0) (sym b) (subst (λ j. getD xs j 0 ≤ getD xs (i - 1) 0) (sym e) h)
-    | inr e ↦ f k (omega arith)
+      | inl e ↦ let b : k ≡ i - 1 = omega arith in subst (λ j. getD xs (k + 1) 0 ≤ getD xs j 0) (sym b) (subst (λ j. getD xs j 0 ≤ getD xs (i - 1) 0) (sym e) h)
+      | inr e ↦ f k (omega arith)
     ]
 
 -- no time rises exactly where the row is falling
@@ -99,7 +99,7 @@ module _ (ts front zs : List ℕ) (e : front ≡ ts) where
   pub front-falling : rises ts ≡ false → Falling (front ++ zs) (length ts)
   front-falling h = subst (λ f. Falling (f ++ zs) (length ts)) (sym e)
       (λ k lt. rw (getD-append-left ts zs 0 (k + 1) lt)
-          (let less : k < length ts = omega arith in rw (getD-append-left ts zs 0 k less) (falling-from ts h k lt)))
+      (let less : k < length ts = omega arith in rw (getD-append-left ts zs 0 k less) (falling-from ts h k lt)))
 
   pub front-taken : take (length ts) (front ++ zs) ≡ ts
   front-taken = ap (λ f. take (length ts) (f ++ zs)) e ∙ take-at ts zs (length ts) refl
@@ -156,8 +156,8 @@ module _ (xs : List ℕ) (n i y : ℕ) (le : n ≤ length xs) where
       let other : i - 1 ≡ i → ⊥ = λ z. omega arith in
       let step : i - 1 + 1 ≡ i = omega arith in
       let up : getD (set (take n xs) i y) (i - 1) 0 < getD (set (take n xs) i y) (i - 1 + 1) 0 =
-          subst (λ j. getD (set (take n xs) i y) (i - 1) 0 < getD (set (take n xs) i y) j 0) (sym step)
-          (rw (getD-set-other (take n xs) i (i - 1) y 0 other, getD-set-same (take n xs) i y 0 inside, getD-take n xs (i - 1) 0 before) h) in
+      subst (λ j. getD (set (take n xs) i y) (i - 1) 0 < getD (set (take n xs) i y) j 0) (sym step)
+      (rw (getD-set-other (take n xs) i (i - 1) y 0 other, getD-set-same (take n xs) i y 0 inside, getD-take n xs (i - 1) 0 before) h) in
       amend-by done true lt lo hi (rises-at (set (take n xs) i y) (i - 1) (omega (arith, set-long)) up)
 
   pub amend-below : {A : Type 0} (done : A) → i < n → 1 ≤ y → y ≤ 1000000 → i + 1 < n → y < getD xs (i + 1) 0
@@ -166,14 +166,14 @@ module _ (xs : List ℕ) (n i y : ℕ) (le : n ≤ length xs) where
       let inside : i < length (take n xs) = omega (arith, long) in
       let other : i + 1 ≡ i → ⊥ = λ z. omega arith in
       let up : getD (set (take n xs) i y) i 0 < getD (set (take n xs) i y) (i + 1) 0 =
-          rw (getD-set-other (take n xs) i (i + 1) y 0 other, getD-set-same (take n xs) i y 0 inside, getD-take n xs (i + 1) 0 more) h in
+      rw (getD-set-other (take n xs) i (i + 1) y 0 other, getD-set-same (take n xs) i y 0 inside, getD-take n xs (i + 1) 0 more) h in
       amend-by done true lt lo hi (rises-at (set (take n xs) i y) i (omega (arith, set-long)) up)
 
   pub amend-done : {A : Type 0} (done : A) → i < n → 1 ≤ y → y ≤ 1000000 → (0 < i → y ≤ getD xs (i - 1) 0) → (i + 1 < n → getD xs (i + 1) 0 ≤ y)
       → Falling xs n → judged (amend-checks (take n xs) i y) done ≡ Ok done
   amend-done done lt lo hi low high f =
       let keeps : Falling (take n (set xs i y)) (length (take n (set xs i y))) =
-          take-falling (set xs i y) n (rw length-set le) (falling-set xs n i y (omega arith) low high f) in
+      take-falling (set xs i y) n (rw length-set le) (falling-set xs n i y (omega arith) low high f) in
       amend-by done false lt lo hi (ap rises (sym (take-set-in n xs i y)) ∙ falling-not (take n (set xs i y)) keeps)
 
 -- the slots behind the times: as many ones as are left of eleven

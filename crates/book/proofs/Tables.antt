@@ -52,7 +52,7 @@ module _ (t : Table) (task : Task) (at cycle : ℕ) (b : Between t (task .number
   inserted-ascends new e =
       subst Ascending (sym (ap (map number-in) e ∙ map-inserted number-in (slots t) at task))
       (ascending-inserted (numbers (t .tasks) (t .count)) at (task .number) (omega (arith, numbers-long t, b .0)) (t .ascending) (b .1)
-          (λ h. b .2 (omega (arith, numbers-long t))))
+      (λ h. b .2 (omega (arith, numbers-long t))))
 
   pub inserted-cycle : (new : List Task) → new ≡ inserted (slots t) at task → cycle ≡ hyperperiod (map period-in new)
   inserted-cycle new e = period-inserted (slots t) at task cycle multiple ∙ ap (λ ts. hyperperiod (map period-in ts)) (sym e)
@@ -89,7 +89,7 @@ pub table-entered : (old new : Table) (task : Task) (i : ℕ) (res : Result (Uni
 table-entered old new task i res f d =
     let checks = room-checks (record-of task) (records-in old) in
     let e : judged checks (inserted (records-in old) i (record-of task)) ≡ enter-among (record-of task) (records-in old) =
-        ap (judged checks) (entered-between old i (record-of task) f) ∙ sym (rw (taken-nowhere old (task .number) i f)) in
+    ap (judged checks) (entered-between old i (record-of task) f) ∙ sym (rw (taken-nowhere old (task .number) i f)) in
     subst (λ answer. Did records-in old new answer res) e d
 
 pub append-order : (t : Table) (task : Task) → task .number ≤ last-number (records-in t) → append-last (record-of task) (records-in t) ≡ Err r.Order
@@ -102,7 +102,7 @@ table-appended old new task res lt d =
     let checks = room-checks (record-of task) (records-in old) in
     let size : length (records-in old) ≤ old .count = omega (arith, records-long old) in
     let behind : inserted (records-in old) (old .count) (record-of task) ≡ records-in old ++ record-of task ∷ [] =
-        (λ j. take-all (old .count) (records-in old) size j ++ record-of task ∷ drop-all (old .count) (records-in old) size j) in
+    (λ j. take-all (old .count) (records-in old) size j ++ record-of task ∷ drop-all (old .count) (records-in old) size j) in
     let e : judged checks (inserted (records-in old) (old .count) (record-of task)) ≡ append-last (record-of task) (records-in old) =
-        ap (judged checks) behind ∙ sym (rw (lt-leb (task .number) (last-number (records-in old)) lt)) in
+    ap (judged checks) behind ∙ sym (rw (lt-leb (task .number) (last-number (records-in old)) lt)) in
     subst (λ answer. Did records-in old new answer res) e d

@@ -25,6 +25,7 @@ task-amended old new class time (Ok u) p q s h =
     ∙ ap (done-by put) h
     ∙ (λ j. Ok (task-record (sym p j) (sym q j) (sym s j) (times-in (new .row))))
 task-amended old new class time (Err e) p q s h =
-    let put : List ℕ → TaskRecord = task-record (old .number) (old .period) (old .deadline) in
-    ( judged-by put (amend-checks (times-in (old .row)) class time) (set (times-in (old .row)) class time) ∙ ap (done-by put) (h .0)
-    , task-same new old p q s (h .1))
+    let put : List ℕ → TaskRecord = task-record (old .number) (old .period) (old .deadline) in (
+      judged-by put (amend-checks (times-in (old .row)) class time) (set (times-in (old .row)) class time) ∙ ap (done-by put) (h .0),
+      task-same new old p q s (h .1),
+    )

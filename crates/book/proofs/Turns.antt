@@ -24,9 +24,9 @@ pub insert-eq : {X : Type 0} (xs ys : List X) (n at : ℕ) (x : X) → n < lengt
 insert-eq xs ys n at x lt le e =
     let long : length (take n xs) ≡ n = length-take-le n xs (omega arith) in
     let part : between at (n + 1) (set xs n x) ≡ drop at (take n xs) ++ x ∷ [] =
-        between-is (set xs n x) at (n + 1) ∙ ap (drop at) (take-more-set xs n x lt) ∙ drop-append-le at (take n xs) (x ∷ []) (omega arith) in
+    between-is (set xs n x) at (n + 1) ∙ ap (drop at) (take-more-set xs n x lt) ∙ drop-append-le at (take n xs) (x ∷ []) (omega arith) in
     let all : ys ≡ x ∷ drop at (take n xs) =
-        e ∙ ap (λ p. drop (length p - 1) p ++ take (length p - 1) p) part ∙ turned (drop at (take n xs)) x in
+    e ∙ ap (λ p. drop (length p - 1) p ++ take (length p - 1) p) part ∙ turned (drop at (take n xs)) x in
     let size : n + 1 ≡ at + length ys = omega (arith, ap length all, length-drop at (take n xs)) in
     let set-long : at ≤ length (set xs n x) = simp length-set (omega arith) in
     take-putMid at (n + 1 - at) (set xs n x) ys (n + 1) size set-long
@@ -46,7 +46,7 @@ remove-eq xs ys n at le lt e =
     let t1 : length (take 1 (drop at (take n xs))) ≡ 1 = length-take-le 1 (drop at (take n xs)) (omega arith) in
     let size : n ≡ at + length ys = omega (arith, ap length all, length-append (drop 1 (drop at (take n xs))) (take 1 (drop at (take n xs)))) in
     let front : length (take at xs ++ drop 1 (drop at (take n xs))) ≡ n - 1 =
-        length-append (take at xs) (drop 1 (drop at (take n xs))) ∙ omega (arith, length-take-le at xs (omega arith)) in
+    length-append (take at xs) (drop 1 (drop at (take n xs))) ∙ omega (arith, length-take-le at xs (omega arith)) in
     sym (take-take (n - 1) n (putMid at (n - at) xs ys) (omega arith))
     ∙ ap (take (n - 1)) (take-putMid at (n - at) xs ys n size (omega arith))
     ∙ ap (λ zs. take (n - 1) (take at xs ++ zs)) all
@@ -73,7 +73,7 @@ remove-rest f xs ys n at b y le lt long e =
     let size : length ys ≡ n - at = long ∙ length-between xs at n le in
     let zs = putMid at (n - at) xs ys in
     let inside : n - 1 < length zs =
-        omega (arith, length-append (take at xs) (ys ++ drop (n - at) (drop at xs)), length-append ys (drop (n - at) (drop at xs)), length-take-le at xs (omega arith)) in
+    omega (arith, length-append (take at xs) (ys ++ drop (n - at) (drop at xs)), length-append ys (drop (n - at) (drop at xs)), length-take-le at xs (omega arith)) in
     let one : n - 1 + 1 ≡ n = omega arith in
     ap (map f) (drop-set zs (n - 1) b inside)
     ∙ (λ j. e j ∷ map f (drop (one j) zs))

@@ -16,7 +16,10 @@ impl Book {
     pub fn new() -> Book
         ensures { λ r. ⌜ holds r ≡ begun 1 ⌝ }
     {
-        Book { cache: 1, table: Table::empty() }
+        Book {
+            cache: 1,
+            table: Table::empty(),
+        }
     }
 
     /// Puts an empty book of this cache size in place of the one lent.
@@ -26,29 +29,40 @@ impl Book {
         if size < 1 || size > LARGEST_CACHE {
             return Err(Refusal::Cache);
         }
-        *self = Book { cache: size, table: Table::empty() };
+        *self = Book {
+            cache: size,
+            table: Table::empty(),
+        };
         Ok(())
     }
 
     /// Adds a task at the place of its number.
-    pub fn enter(&mut self, number: u8, period: u32, deadline: u32, times: &[u32]) -> Result<(), Refusal>
-        ensures {
-            λ r.
-                ⌜ Did holds (now (self .entry)) (now (self .exit))
-                    (enter-answer (holds (now (self .entry))) (task-record number period deadline (now (times .entry)))) r ⌝
-        }
+    pub fn enter(
+        &mut self,
+        number: u8,
+        period: u32,
+        deadline: u32,
+        times: &[u32],
+    ) -> Result<(), Refusal>
+        ensures { λ r.
+            ⌜ Did holds (now (self .entry)) (now (self .exit))
+            (enter-answer (holds (now (self .entry))) (task-record number period deadline (now (times .entry)))) r ⌝ }
     {
         let task = Task::new(number, period, deadline, times)?;
         self.table.enter(task)
     }
 
     /// Adds a task behind the last one. It checks as `enter` does, but for the number, which has to be above all others.
-    pub fn append(&mut self, number: u8, period: u32, deadline: u32, times: &[u32]) -> Result<(), Refusal>
-        ensures {
-            λ r.
-                ⌜ Did holds (now (self .entry)) (now (self .exit))
-                    (append-answer (holds (now (self .entry))) (task-record number period deadline (now (times .entry)))) r ⌝
-        }
+    pub fn append(
+        &mut self,
+        number: u8,
+        period: u32,
+        deadline: u32,
+        times: &[u32],
+    ) -> Result<(), Refusal>
+        ensures { λ r.
+            ⌜ Did holds (now (self .entry)) (now (self .exit))
+            (append-answer (holds (now (self .entry))) (task-record number period deadline (now (times .entry)))) r ⌝ }
     {
         let task = Task::new(number, period, deadline, times)?;
         self.table.append(task)

@@ -54,14 +54,20 @@ impl Row {
         }
         let mut slots = [1; 11];
         slots[0..count].copy_from_slice(times);
-        Ok(Row { times: slots, count })
+        Ok(Row {
+            times: slots,
+            count,
+        })
     }
 
     /// The row of one class with the time 1.
     pub(crate) fn blank() -> Row
         ensures { λ r. ⌜ r .count ≡ 1 ⌝ ∗ ⌜ getD (r .times) 0 0 ≡ 1 ⌝ }
     {
-        Row { times: [1; 11], count: 1 }
+        Row {
+            times: [1; 11],
+            count: 1,
+        }
     }
 
     /// The times, from class 0 up.
@@ -77,16 +83,18 @@ impl Row {
         ensures bound { λ r. ⌜ r ≤ 1000000 ⌝ }
     {
         let class = class as usize;
-        if class < self.count { self.times[class] } else { 0 }
+        if class < self.count {
+            self.times[class]
+        } else {
+            0
+        }
     }
 
     /// Puts `time` at `class`, if the row as it would be keeps the rules.
     pub(crate) fn amend(&mut self, class: usize, time: u32) -> Result<(), Refusal>
-        ensures {
-            λ r.
-                ⌜ Did times-in (now (self .entry)) (now (self .exit))
-                    (judged (amend-checks (times-in (now (self .entry))) class time) (set (times-in (now (self .entry))) class time)) r ⌝
-        }
+        ensures { λ r.
+            ⌜ Did times-in (now (self .entry)) (now (self .exit))
+            (judged (amend-checks (times-in (now (self .entry))) class time) (set (times-in (now (self .entry))) class time)) r ⌝ }
     {
         if class >= self.count {
             return Err(Refusal::Class);

@@ -26,7 +26,11 @@ impl Table {
     pub(crate) fn empty() -> Table
         ensures { λ r. ⌜ records-in r ≡ [] ⌝ }
     {
-        Table { tasks: [Task::blank(); 16], count: 0, cycle: 1 }
+        Table {
+            tasks: [Task::blank(); 16],
+            count: 0,
+            cycle: 1,
+        }
     }
 
     /// The place of the task `number`, or else the place where it would go, as `binary_search` answers.
@@ -50,17 +54,19 @@ impl Table {
         ensures { λ r. ⌜ r ≡ last-number (records-in (now (self .entry))) ⌝ }
     {
         let count = self.count;
-        if count == 0 { 0 } else { self.tasks[count - 1].number }
+        if count == 0 {
+            0
+        } else {
+            self.tasks[count - 1].number
+        }
     }
 
     /// Puts the task at a place, if there is room for it.
     fn insert(&mut self, at: usize, task: Task) -> Result<(), Refusal>
         requires { ⌜ Between (now self) (task .number) at ⌝ }
-        ensures {
-            λ r.
-                ⌜ Did records-in (now (self .entry)) (now (self .exit))
-                    (judged (room-checks (record-of task) (records-in (now (self .entry)))) (inserted (records-in (now (self .entry))) at (record-of task))) r ⌝
-        }
+        ensures { λ r.
+            ⌜ Did records-in (now (self .entry)) (now (self .exit))
+            (judged (room-checks (record-of task) (records-in (now (self .entry)))) (inserted (records-in (now (self .entry))) at (record-of task))) r ⌝ }
     {
         let count = self.count;
         if count >= MOST_TASKS {
@@ -78,9 +84,7 @@ impl Table {
 
     /// Takes the task in at the place of its number.
     pub(crate) fn enter(&mut self, task: Task) -> Result<(), Refusal>
-        ensures {
-            λ r. ⌜ Did records-in (now (self .entry)) (now (self .exit)) (enter-among (record-of task) (records-in (now (self .entry)))) r ⌝
-        }
+        ensures { λ r. ⌜ Did records-in (now (self .entry)) (now (self .exit)) (enter-among (record-of task) (records-in (now (self .entry)))) r ⌝ }
     {
         let Err(at) = self.find(task.number) else {
             return Err(Refusal::Taken);
@@ -90,9 +94,7 @@ impl Table {
 
     /// Takes the task in behind the last one.
     pub(crate) fn append(&mut self, task: Task) -> Result<(), Refusal>
-        ensures {
-            λ r. ⌜ Did records-in (now (self .entry)) (now (self .exit)) (append-last (record-of task) (records-in (now (self .entry)))) r ⌝
-        }
+        ensures { λ r. ⌜ Did records-in (now (self .entry)) (now (self .exit)) (append-last (record-of task) (records-in (now (self .entry)))) r ⌝ }
     {
         if self.last_number() >= task.number {
             return Err(Refusal::Order);
@@ -103,9 +105,7 @@ impl Table {
 
     /// Puts `time` at `class` of the task `number`: one record of the array is lent to be changed.
     pub(crate) fn amend(&mut self, number: u8, class: usize, time: u32) -> Result<(), Refusal>
-        ensures {
-            λ r. ⌜ Did records-in (now (self .entry)) (now (self .exit)) (amend-tasks number class time (records-in (now (self .entry)))) r ⌝
-        }
+        ensures { λ r. ⌜ Did records-in (now (self .entry)) (now (self .exit)) (amend-tasks number class time (records-in (now (self .entry)))) r ⌝ }
     {
         let Ok(at) = self.find(number) else {
             return Err(Refusal::Unknown);
@@ -116,9 +116,7 @@ impl Table {
 
     /// Takes the task `number` away.
     pub(crate) fn withdraw(&mut self, number: u8) -> Result<(), Refusal>
-        ensures {
-            λ r. ⌜ Did records-in (now (self .entry)) (now (self .exit)) (withdraw-tasks number (records-in (now (self .entry)))) r ⌝
-        }
+        ensures { λ r. ⌜ Did records-in (now (self .entry)) (now (self .exit)) (withdraw-tasks number (records-in (now (self .entry)))) r ⌝ }
     {
         let Ok(at) = self.find(number) else {
             return Err(Refusal::Unknown);

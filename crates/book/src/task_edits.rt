@@ -14,12 +14,15 @@ const LONGEST_PERIOD: u32 = 1_000_000;
 
 impl Task {
     /// The task of these parts, if they keep the rules of a task.
-    pub(crate) fn new(number: u8, period: u32, deadline: u32, times: &[u32]) -> Result<Task, Refusal>
-        ensures {
-            λ r.
-                ⌜ Made record-of
-                    (judged (task-checks (task-record number period deadline (now (times .entry)))) (task-record number period deadline (now (times .entry)))) r ⌝
-        }
+    pub(crate) fn new(
+        number: u8,
+        period: u32,
+        deadline: u32,
+        times: &[u32],
+    ) -> Result<Task, Refusal>
+        ensures { λ r.
+            ⌜ Made record-of
+            (judged (task-checks (task-record number period deadline (now (times .entry)))) (task-record number period deadline (now (times .entry)))) r ⌝ }
     {
         if number == 0 {
             return Err(Refusal::Number);
@@ -31,24 +34,32 @@ impl Task {
             return Err(Refusal::Deadline);
         }
         let row = Row::from_times(times)?;
-        Ok(Task { number, period, deadline, row })
+        Ok(Task {
+            number,
+            period,
+            deadline,
+            row,
+        })
     }
 
     /// The task that stands in an unused slot.
     pub(crate) fn blank() -> Task
         ensures { λ r. ⌜ fields r ≡ blank ⌝ }
     {
-        Task { number: 1, period: 1, deadline: 1, row: Row::blank() }
+        Task {
+            number: 1,
+            period: 1,
+            deadline: 1,
+            row: Row::blank(),
+        }
     }
 
     /// Puts `time` at `class` of the row, if the row as it would be keeps the rules.
     pub(crate) fn amend(&mut self, class: usize, time: u32) -> Result<(), Refusal>
         ensures kept { λ _. ⌜ Kept (now (self .entry)) (now (self .exit)) ⌝ }
-        ensures answer {
-            λ r.
-                ⌜ Did record-of (now (self .entry)) (now (self .exit))
-                    (judged (amend-checks (record-of (now (self .entry)) .times) class time) (with-time class time (record-of (now (self .entry))))) r ⌝
-        }
+        ensures answer { λ r.
+            ⌜ Did record-of (now (self .entry)) (now (self .exit))
+            (judged (amend-checks (record-of (now (self .entry)) .times) class time) (with-time class time (record-of (now (self .entry))))) r ⌝ }
     {
         self.row.amend(class, time)
     }

@@ -13,10 +13,13 @@ loop-task-holds c = sym hyperperiod-none
 
 pub lcm-whole-requires : need.lcm-whole-requires
 lcm-whole-requires c κs =
-    let t = c .task-item .result in
-    ( omega (arith, t .timed)
-    , ( omega (arith, t .timed)
-      , omega (arith, c .loop-task .inv, period-front (c .args .tasks .now) (c .loop-task .task-index), c .pre)))
+    let t = c .task-item .result in (
+      omega (arith, t .timed),
+      (
+        omega (arith, t .timed),
+        omega (arith, c .loop-task .inv, period-front (c .args .tasks .now) (c .loop-task .task-index), c .pre),
+      ),
+    )
 
 pub loop-task-again : need.loop-task-again
 loop-task-again c =

@@ -13,12 +13,19 @@ ghost-result c =
     let front = c .copy-from-slice .last .self in
     let same = c .copy-from-slice .ensures .after in
     let o : any-outside ts ≡ false = search needs in
-    let f : rises ts ≡ false = search needs in
-    ( (omega arith, omega arith, front-long ts front same (omega arith))
-    , ( front-within ts front _ same o
-      , ( front-falling ts front _ same f
-        , ( front-ones ts front same
-          , tt))))
+    let f : rises ts ≡ false = search needs in (
+      (omega arith, omega arith, front-long ts front same (omega arith)),
+      (
+        front-within ts front _ same o,
+        (
+          front-falling ts front _ same f,
+          (
+            front-ones ts front same,
+            tt,
+          ),
+        ),
+      ),
+    )
 
 pub returns : need.returns
 returns c =

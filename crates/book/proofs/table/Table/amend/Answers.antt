@@ -15,12 +15,19 @@ pub ghost-self : need.ghost-self
 ghost-self c =
     let t = c .args .self .now in
     let d = c .index-tasks-at .result in
-    let kept = c .amend .ensures .kept in
-    ( search needs
-    , ( ascending-keeps (t .tasks) (t .count) (c .in-Ok .at) d (c .amend .last .self) (kept .0) (t .ascending)
-      , ( (cycle-keeps (t .tasks) (t .count) (c .in-Ok .at) (t .cycle) d (c .amend .last .self) (kept .1) (t .cyclic .0), t .cyclic .1)
-        , ( ap (map fields) (drop-set-lt (t .count) (t .tasks) (c .in-Ok .at) (c .amend .last .self) (omega (arith, c .in-Ok .ensures tt .0))) ∙ t .spare
-          , tt))))
+    let kept = c .amend .ensures .kept in (
+      search needs,
+      (
+        ascending-keeps (t .tasks) (t .count) (c .in-Ok .at) d (c .amend .last .self) (kept .0) (t .ascending),
+        (
+          (cycle-keeps (t .tasks) (t .count) (c .in-Ok .at) (t .cycle) d (c .amend .last .self) (kept .1) (t .cyclic .0), t .cyclic .1),
+          (
+            ap (map fields) (drop-set-lt (t .count) (t .tasks) (c .in-Ok .at) (c .amend .last .self) (omega (arith, c .in-Ok .ensures tt .0))) ∙ t .spare,
+            tt,
+          ),
+        ),
+      ),
+    )
 
 pub returns : need.returns
 returns c =

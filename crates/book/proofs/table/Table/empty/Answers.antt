@@ -5,9 +5,16 @@ use Rattle.book.proofs.Multiples.{hyperperiod-none}
 use Rattle.book.proofs.table.Table.empty.Needs as need
 
 pub ghost-result : need.ghost-result
-ghost-result c =
-    ( (omega arith, omega arith)
-    , ( (λ k h. omega arith)
-      , ( (sym hyperperiod-none, omega arith)
-        , ( ap (replicate 16) (c .blank .ensures)
-          , tt))))
+ghost-result c = (
+  (omega arith, omega arith),
+  (
+    (λ k h. omega arith),
+    (
+      (sym hyperperiod-none, omega arith),
+      (
+        ap (replicate 16) (c .blank .ensures),
+        tt,
+      ),
+    ),
+  ),
+)

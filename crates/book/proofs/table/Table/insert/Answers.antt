@@ -15,12 +15,19 @@ pub ghost-self : need.ghost-self
 ghost-self c =
     let t = c .args .self .now in
     let new = c .insert-at .last .tasks in
-    let front = c .insert-at .ensures .front in
-    ( search needs
-    , ( inserted-ascends t (c .args .task) (c .args .at) (c .lcm-cycle .result) (c .pre) (c .lcm-cycle .ensures) _ front
-      , ( (inserted-cycle t (c .args .task) (c .args .at) (c .lcm-cycle .result) (c .pre) (c .lcm-cycle .ensures) _ front, omega arith)
-        , ( spare-less fields (t .tasks) new (t .count) blank (t .spare) (c .insert-at .ensures .rest)
-          , tt))))
+    let front = c .insert-at .ensures .front in (
+      search needs,
+      (
+        inserted-ascends t (c .args .task) (c .args .at) (c .lcm-cycle .result) (c .pre) (c .lcm-cycle .ensures) _ front,
+        (
+          (inserted-cycle t (c .args .task) (c .args .at) (c .lcm-cycle .result) (c .pre) (c .lcm-cycle .ensures) _ front, omega arith),
+          (
+            spare-less fields (t .tasks) new (t .count) blank (t .spare) (c .insert-at .ensures .rest),
+            tt,
+          ),
+        ),
+      ),
+    )
 
 pub returns : need.returns
 returns c =

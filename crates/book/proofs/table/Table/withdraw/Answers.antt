@@ -16,12 +16,19 @@ pub ghost-self : need.ghost-self
 ghost-self c =
     let t = c .args .self .now in
     let done = c .withdraw-at-cycle .ensures in
-    let found = c .in-Ok .ensures tt in
-    ( search needs
-    , ( removed-ascends t (c .in-Ok .at) (found .0) _ (done .front)
-      , ( (done .cycle, done .within)
-        , ( spare-more blank (t .count) _ (map fields (drop (t .count) (t .tasks))) (omega (arith, found .0)) (omega (arith, t .few)) (done .rest) (t .spare)
-          , tt))))
+    let found = c .in-Ok .ensures tt in (
+      search needs,
+      (
+        removed-ascends t (c .in-Ok .at) (found .0) _ (done .front),
+        (
+          (done .cycle, done .within),
+          (
+            spare-more blank (t .count) _ (map fields (drop (t .count) (t .tasks))) (omega (arith, found .0)) (omega (arith, t .few)) (done .rest) (t .spare),
+            tt,
+          ),
+        ),
+      ),
+    )
 
 pub returns : need.returns
 returns c =
