@@ -28,12 +28,12 @@ abbrev pub short-check : {X Y : Type 0} → List X → List Y → Check
 short-check buffer out = (ltb (length buffer) (length out), r.Short)
 
 -- A call that makes a value gave the answer, where a value stands for `view` of it.
-abbrev pub Made : {S V : Type 0} → (S → V) → Result V Refusal → Result S Refusal → Type 0
+abbrev pub Made : {S V E : Type 0} → (S → V) → Result V E → Result S E → Type 0
 Made view answer (Ok made) = answer ≡ Ok (view made)
 Made view answer (Err e) = answer ≡ Err e
 
 -- A call that changes a value gave the answer: done, the value stands for what the answer says; refused, it is as it was.
-abbrev pub Did : {S V : Type 0} → (S → V) → S → S → Result V Refusal → Result (Unit {0}) Refusal → Type 0
+abbrev pub Did : {S V E : Type 0} → (S → V) → S → S → Result V E → Result (Unit {0}) E → Type 0
 Did view old new answer (Ok u) = answer ≡ Ok (view new)
 Did view old new answer (Err e) = (answer ≡ Err e) × (new ≡ old)
 

@@ -1,0 +1,2 @@
+// Sheets: a book as bytes, for the line between the planner and whoever keeps its books.
+pub mod fault;
