@@ -2,6 +2,7 @@ pub mod Amends
 pub mod Answered
 pub mod Books
 pub mod ClassLists
+pub mod Injective
 pub mod Keeps
 pub mod ListCalls
 pub mod Moves

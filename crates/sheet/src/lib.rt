@@ -1,2 +1,4 @@
 // Sheets: a book as bytes, for the line between the planner and whoever keeps its books.
 pub mod fault;
+mod read;
+mod record;
