@@ -60,7 +60,7 @@ TimesRead s (Err f) = ⊥
 abbrev pub RecordLoaded : Book → Book → ℕ → List ℕ → ℕ → Result (RefT (List ℕ)) Fault → Type 0
 RecordLoaded old new len s place (Ok rest) =
     (judged (record-checks len s (holds old .tasks)) (holds old .tasks ++ record-at len s ∷ []) ≡ Ok (holds new .tasks))
-    × (holds new .cache ≡ holds old .cache) × (rest .now ≡ drop len s) × (len ∷ s ≡ record-bytes (record-at len s) ++ rest .now)
+    × (holds new .cache ≡ holds old .cache) × (len ≤ length s) × (rest .now ≡ drop len s) × (len ∷ s ≡ record-bytes (record-at len s) ++ rest .now)
 RecordLoaded old new len s place (Err f) =
     placed place (judged (record-checks len s (holds old .tasks)) (holds old .tasks ++ record-at len s ∷ [])) ≡ Err f
 
