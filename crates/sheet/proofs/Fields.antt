@@ -39,7 +39,7 @@ pub head-split : (s t : List ℕ) (n : ℕ) → 1 ≤ length s → t ≡ take (l
 head-split s t n h is v l a b e =
     split-one s h ∙ (λ j. v j ∷ sym is j)
     ∙ ap (λ zs. 1 ∷ zs)
-      (split-two t l ∙ ap (λ zs. zs ++ take (length t - 2) (drop 2 t)) (sym (two-of (getD t 0 0) (getD t 1 0) a b) ∙ ap two-bytes (sym e)))
+    (split-two t l ∙ ap (λ zs. zs ++ take (length t - 2) (drop 2 t)) (sym (two-of (getD t 0 0) (getD t 1 0) a b) ∙ ap two-bytes (sym e)))
 
 -- a record's bytes, from what its fields took off one after the other
 pub record-split : (s s₁ s₂ s₃ t rest : List ℕ) (p d : ℕ) → 1 ≤ length s → s₁ ≡ take (length s - 1) (drop 1 s) → s₁ ≡ four-bytes p ++ s₂ → s₂ ≡ four-bytes d ++ s₃ → s₃ ≡ t ++ rest

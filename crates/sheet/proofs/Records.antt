@@ -77,7 +77,7 @@ module _ (len n p d : ℕ) (s t rest ts : List ℕ) (good : bad-length len ≡ f
   pub record-loaded : (old new : Book) (place : ℕ) (a : Result (Unit {0}) Refusal) (u : Unit {0}) → Did holds old new (append-answer (holds old) (task-record n p d ts)) a
       → Ok u ≡ placed place a
       → (judged (record-checks len s (holds old .tasks)) (holds old .tasks ++ record-at len s ∷ []) ≡ Ok (holds new .tasks)) × (holds new .cache ≡ holds old .cache)
-        × (len ≤ length s) × (rest ≡ drop len s) × (len ∷ s ≡ record-bytes (record-at len s) ++ rest)
+      × (len ≤ length s) × (rest ≡ drop len s) × (len ∷ s ≡ record-bytes (record-at len s) ++ rest)
   record-loaded old new place (Ok v) u did e =
       let w = with-ok (holds old) (holds new) (append-tasks (task-record n p d ts) (holds old .tasks)) did in
       (checks-are (holds old .tasks) ∙ w .0, w .1, whole, rest-is, bytes-are)

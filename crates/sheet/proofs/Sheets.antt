@@ -16,7 +16,7 @@ use Rattle.book.specs.Ledger.{Ledger, TaskRecord, begun}
 use Rattle.book.specs.declared.book.Book.{Book}
 use Rattle.book.specs.declared.refusal.Refusal.{Refusal}
 use Rattle.book.specs.declared.refusal.Refusal.the-variants as r
-use Rattle.book.proofs.Answered.{done-by, done-same, judged-by, passed-on, refused-by}
+use Rattle.book.proofs.Answered.{done-same, passed-on}
 use Rattle.sheet.specs.Decoding.{and-then, decode, head-checks, placed, read-records, record-at, record-checks, value2}
 use Rattle.sheet.specs.Encoding.{encode, record-bytes, records-bytes, two-bytes}
 use Rattle.sheet.specs.declared.fault.Fault.{Fault}
@@ -61,7 +61,7 @@ module _ (old new : Ledger) (len place : ℕ) (s rest : List ℕ) where
       let one = record-at len s in
       let tasks : new .tasks ≡ old .tasks ++ one ∷ [] = done-same (record-checks len s (old .tasks)) (old .tasks ++ one ∷ []) (new .tasks) e in
       let bytes : records-bytes (new .tasks) ≡ records-bytes (old .tasks) ++ record-bytes one =
-          ap records-bytes tasks ∙ records-append (old .tasks) (one ∷ []) ∙ ap (λ zs. records-bytes (old .tasks) ++ zs) (append-nil (record-bytes one)) in
+      ap records-bytes tasks ∙ records-append (old .tasks) (one ∷ []) ∙ ap (λ zs. records-bytes (old .tasks) ++ zs) (append-nil (record-bytes one)) in
       let whole : encode new ≡ encode old ++ record-bytes one = (λ j. 1 ∷ (two-bytes (c j) ++ bytes j)) in
       inv ∙ ap (λ zs. encode old ++ zs) d ∙ sym (append-assoc (encode old) (record-bytes one) rest) ∙ ap (λ zs. zs ++ rest) (sym whole)
 
@@ -71,20 +71,8 @@ pub one-refused : (l : Ledger) (len place : ℕ) (s : List ℕ) (f : Fault) → 
 one-refused l len place s f e =
     ap (λ a. and-then (and-then a (λ more. read-records (length s) (place + suc len) more (drop len s))) (λ ts. Ok (record { cache = l .cache; tasks = ts }))) e
 
--- a head that is refused refuses the sheet
-then-refused : {A B C : Type 0} (g : A → B) (next : B → Result C Fault) (a : Result A Refusal) (f : Fault) → placed 0 a ≡ Err f
-    → and-then (placed 0 (done-by g a)) next ≡ Err f
-then-refused g next (Ok x) f e = let z : _≡_ {A = ℕ} 0 1 = cc in absurd (omega arith)
-then-refused g next (Err q) f e = let same : record { refusal = q; place = 0 } ≡ f = cc in ap Err same
-
 abbrev records-of : List ℕ → ℕ → Result Ledger Fault
 records-of s size = and-then (read-records (length s) 3 [] (drop 3 s)) (λ ts. Ok (record { cache = size; tasks = ts }))
-
-pub head-refused : (s : List ℕ) (f : Fault) → placed 0 (judged {A = Unit {0}} (head-checks s) tt) ≡ Err f → decode s ≡ Err f
-head-refused s f e =
-    let size : Unit {0} → ℕ = λ u. value2 (drop 1 s) in
-    ap (λ a. and-then (placed 0 a) (records-of s)) (judged-by size (head-checks s) tt)
-    ∙ then-refused size (records-of s) (judged {A = Unit {0}} (head-checks s) tt) f e
 
 -- a whole head leaves the answer to the cache size, and then to the records
 module _ (s rest : List ℕ) (size : ℕ) (split : s ≡ 1 ∷ (two-bytes size ++ rest)) (small : size < 65536) where
@@ -93,31 +81,24 @@ module _ (s rest : List ℕ) (size : ℕ) (split : s ≡ 1 ∷ (two-bytes size +
       let tail : List ℕ = two-bytes size ++ rest in
       ap (λ zs. judged (head-checks zs) done) split
       ∙ rw (ne-eqb (length (1 ∷ tail)) 0 (λ z. omega arith), le-ltb (length (1 ∷ tail)) 3 (omega arith))
-        (ap (λ n. judged ((outside 1 1024 n, r.Cache) ∷ []) done) (value-two size rest small))
+      (ap (λ n. judged ((outside 1 1024 n, r.Cache) ∷ []) done) (value-two size rest small))
 
   size-is : value2 (drop 1 s) ≡ size
   size-is = ap (λ zs. value2 (drop 1 zs)) split ∙ value-two size rest small
 
-  pub size-refused : (a : Result (Unit {0}) Refusal) (old new : Book) (f : Fault) → Did holds old new (make-answer size) a → Err f ≡ placed 0 a → decode s ≡ Err f
-  size-refused (Ok u) old new f did e = let z : _≡_ {A = ℕ} 0 1 = cc in absurd (omega arith)
-  size-refused (Err q) old new f did e =
-      let same : record { refusal = q; place = 0 } ≡ f = cc in
-      ap (λ a. and-then (placed 0 a) (records-of s))
-      (head-is (value2 (drop 1 s)) ∙ refused-by ((outside 1 1024 size, r.Cache) ∷ []) [] (begun size) (value2 (drop 1 s)) q (did .0))
-      ∙ ap Err same
-
   begins : (l : Ledger) → make-answer size ≡ Ok l → (decode s ≡ decoded-from l 3 rest) × (s ≡ encode l ++ rest) × (length s ≡ 3 + length rest)
   begins l m =
       let start : l ≡ begun size = done-same ((outside 1 1024 size, r.Cache) ∷ []) (begun size) l m in
-      let long : length s ≡ 3 + length rest = ap length split ∙ omega arith in
-      ( ap (λ a. and-then (placed 0 a) (records-of s))
-        (head-is (value2 (drop 1 s)) ∙ passed-on ((outside 1 1024 size, r.Cache) ∷ []) [] (begun size) (value2 (drop 1 s)) l m)
-        ∙ ap (records-of s) size-is
-        ∙ ap (λ zs. and-then (read-records (length s) 3 [] (drop 3 zs)) (λ ts. Ok (record { cache = size; tasks = ts }))) split
-        ∙ ap (λ a. and-then a (λ ts. Ok (record { cache = size; tasks = ts }))) (read-more (length s) (length rest) 3 [] rest (omega arith) (omega arith))
-        ∙ ap (λ k. decoded-from k 3 rest) (sym start)
-      , split ∙ ap (λ k. encode k ++ rest) (sym start)
-      , long)
+      let long : length s ≡ 3 + length rest = ap length split ∙ omega arith in (
+        ap (λ a. and-then (placed 0 a) (records-of s))
+            (head-is (value2 (drop 1 s)) ∙ passed-on ((outside 1 1024 size, r.Cache) ∷ []) [] (begun size) (value2 (drop 1 s)) l m)
+            ∙ ap (records-of s) size-is
+            ∙ ap (λ zs. and-then (read-records (length s) 3 [] (drop 3 zs)) (λ ts. Ok (record { cache = size; tasks = ts }))) split
+            ∙ ap (λ a. and-then a (λ ts. Ok (record { cache = size; tasks = ts }))) (read-more (length s) (length rest) 3 [] rest (omega arith) (omega arith))
+            ∙ ap (λ k. decoded-from k 3 rest) (sym start),
+        split ∙ ap (λ k. encode k ++ rest) (sym start),
+        long,
+      )
 
   pub head-passes : (a : Result (Unit {0}) Refusal) (old new : Book) (u : Unit {0}) → Did holds old new (make-answer size) a → Ok u ≡ placed 0 a
       → (decoded-from (holds new) (length s - length rest) rest ≡ decode s) × (s ≡ encode (holds new) ++ rest)
@@ -144,9 +125,10 @@ module _ (old : Ledger) (sheet left s : List ℕ) (len : ℕ) (is : left ≡ len
       → (decoded-from new (length sheet - length rest) rest ≡ decode sheet) × (sheet ≡ encode new ++ rest)
   turn-more new rest e c whole d b =
       let on : length sheet - length left + suc len ≡ length sheet - length rest =
-          omega (arith, ap length is, ap length d, length-drop len s, ap length bytes, length-append (encode old) left) in
-      ( ap (λ place. decoded-from new place rest) (sym on) ∙ sym (one-more old new len (length sheet - length left) s rest e c d) ∙ from-here
-      , bytes-more old new len (length sheet - length left) s rest sheet e c b here)
+      omega (arith, ap length is, ap length d, length-drop len s, ap length bytes, length-append (encode old) left) in (
+        ap (λ place. decoded-from new place rest) (sym on) ∙ sym (one-more old new len (length sheet - length left) s rest e c d) ∙ from-here,
+        bytes-more old new len (length sheet - length left) s rest sheet e c b here,
+      )
 
 -- the end of the sheet
 pub no-more : (l : Ledger) (place : ℕ) (sheet s : List ℕ) → length s ≡ 0 → decoded-from l place s ≡ decode sheet → sheet ≡ encode l ++ s → (decode sheet ≡ Ok l) × (sheet ≡ encode l)

@@ -53,6 +53,6 @@ pub small-more : (slots : List ℕ) (i t : ℕ) → i < length slots → t < 429
     → (k : ℕ) → k < i + 1 → getD (set slots i t) k 0 < 4294967296
 small-more slots i t lt small inv k h =
     elim (cases-eq k i) [
-      inl e ↦ subst (λ j. getD (set slots i t) j 0 < 4294967296) (sym e) (rw (getD-set-same slots i t 0 lt) small)
-    | inr ne ↦ rw (getD-set-other slots i k t 0 ne) (inv k (omega arith))
+      | inl e ↦ subst (λ j. getD (set slots i t) j 0 < 4294967296) (sym e) (rw (getD-set-same slots i t 0 lt) small)
+      | inr ne ↦ rw (getD-set-other slots i k t 0 ne) (inv k (omega arith))
     ]

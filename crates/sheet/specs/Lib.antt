@@ -1,3 +1,4 @@
 pub mod Decoding
 pub mod Encoding
 pub mod Reading
+pub mod Writing

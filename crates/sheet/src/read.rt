@@ -16,7 +16,10 @@ use book::refusal::Refusal;
 fn cut(place: usize) -> Fault
     ensures { λ r. ⌜ r ≡ fault Cut place ⌝ }
 {
-    Fault { refusal: Refusal::Cut, place }
+    Fault {
+        refusal: Refusal::Cut,
+        place,
+    }
 }
 
 /// What the book answers, with the place that a fault has on the sheet.
@@ -54,7 +57,10 @@ fn times_size(length: u8, place: usize) -> Result<usize, Fault>
     ensures { λ r. ⌜ SizeRead length place r ⌝ }
 {
     if length < 13 || length > 53 || length % 4 != 1 {
-        return Err(Fault { refusal: Refusal::Length, place });
+        return Err(Fault {
+            refusal: Refusal::Length,
+            place,
+        });
     }
     Ok(length as usize - 9)
 }
@@ -70,7 +76,15 @@ fn record(length: u8, bytes: &[u8], place: usize) -> Result<(Record<'_>, &[u8]),
     let (period, rest) = field(rest, place)?;
     let (deadline, rest) = field(rest, place)?;
     let (times, rest) = part(rest, size, place)?;
-    Ok((Record { number: *number, period, deadline, times }, rest))
+    Ok((
+        Record {
+            number: *number,
+            period,
+            deadline,
+            times,
+        },
+        rest,
+    ))
 }
 
 /// The times in a record's part of the sheet, in the front of a row's slots, and how many they are.
@@ -90,12 +104,25 @@ fn times(bytes: &[u8], place: usize) -> Result<([u32; 11], usize), Fault>
 }
 
 /// Puts the record behind a length byte into the book, behind its tasks; gives the bytes behind the record.
-fn load_record<'a>(book: &mut Book, length: u8, bytes: &'a [u8], place: usize) -> Result<&'a [u8], Fault>
+fn load_record<'a>(
+    book: &mut Book,
+    length: u8,
+    bytes: &'a [u8],
+    place: usize,
+) -> Result<&'a [u8], Fault>
     ensures { λ r. ⌜ RecordLoaded (now (book .entry)) (now (book .exit)) length (now (bytes .entry)) place r ⌝ }
 {
     let (record, rest) = record(length, bytes, place)?;
     let (slots, count) = times(record.times, place)?;
-    at(place, book.append(record.number, record.period, record.deadline, &slots[0..count]))?;
+    at(
+        place,
+        book.append(
+            record.number,
+            record.period,
+            record.deadline,
+            &slots[0..count],
+        ),
+    )?;
     Ok(rest)
 }
 
@@ -107,7 +134,10 @@ fn head(sheet: &[u8]) -> Result<(u16, &[u8]), Fault>
         return Err(cut(0));
     };
     if *version != 1 {
-        return Err(Fault { refusal: Refusal::Version, place: 0 });
+        return Err(Fault {
+            refusal: Refusal::Version,
+            place: 0,
+        });
     }
     let [high, low, records @ ..] = rest else {
         return Err(cut(0));

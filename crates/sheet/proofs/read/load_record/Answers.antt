@@ -22,8 +22,8 @@ returns-in-Break-at c =
     let p = err-from-errBy (c .from-residual-in-Break-at .result) (c .from-residual-in-Break-at .ensures .1) in
     rw (p .1, p .2)
     (record-refused (c .args .length) (w .number) (w .period) (w .deadline) (c .args .bytes .now) (w .times .now) (c .in-Continue-record .rest .now)
-     (take (count - 0) slots) (q .0) (q .1) (q .2) (q .4) (q .5) (filled-times slots (w .times .now) count (f .1)) (filled-small slots count (f .0) (f .2))
-     (c .args .book .now) (c .append .last .self) (c .args .place) (c .append .result) _ (c .append .ensures) (c .in-Break-at .ensures tt))
+    (take (count - 0) slots) (q .0) (q .1) (q .2) (q .4) (q .5) (filled-times slots (w .times .now) count (f .1)) (filled-small slots count (f .0) (f .2))
+    (c .args .book .now) (c .append .last .self) (c .args .place) (c .append .result) _ (c .append .ensures) (c .in-Break-at .ensures tt))
 
 pub returns : need.returns
 returns c =

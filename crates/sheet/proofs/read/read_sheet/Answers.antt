@@ -30,7 +30,7 @@ returns-in-Break-rest c =
     let p = err-from-errBy (c .from-residual-in-Break-rest .result) (c .from-residual-in-Break-rest .ensures .1) in
     rw (p .1, p .2)
     (turn-refused (holds (c .loop-rest .book)) (c .args .sheet .now) left (take (length left - 1) (drop 1 left)) (getD left 0 0) (split-one left some) (inv .0) (inv .1) _
-     (c .in-Break-rest .ensures tt))
+    (c .in-Break-rest .ensures tt))
 
 pub loop-rest-less : need.loop-rest-less
 loop-rest-less c =

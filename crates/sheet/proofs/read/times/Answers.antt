@@ -15,8 +15,12 @@ returns-in-Break-time c =
     let inv = c .loop-i .inv in
     let size = good-size (length (c .args .bytes .now)) (c .pre) in
     absurd
-    (omega (arith, size, c .in-Break-time .ensures tt .0,
-            times-left (c .args .bytes .now) (c .loop-i .rest .now) (c .loop-i .slots) (c .loop-i .i) (inv .1) (omega (arith, size)) (inv .0)))
+    (omega (
+      arith,
+      size,
+      c .in-Break-time .ensures tt .0,
+      times-left (c .args .bytes .now) (c .loop-i .rest .now) (c .loop-i .slots) (c .loop-i .i) (inv .1) (omega (arith, size)) (inv .0),
+    ))
 
 pub loop-i-again : need.loop-i-again
 loop-i-again c =
@@ -24,17 +28,19 @@ loop-i-again c =
     let size = good-size (length (c .args .bytes .now)) (c .pre) in
     let i = c .loop-i .i in
     let t = c .in-Continue-time .time in
-    let f = c .in-Continue-time .ensures tt in
-    ( times-more (c .args .bytes .now) (c .loop-i .rest .now) (c .loop-i .slots) i (inv .1) (omega (arith, size)) (inv .0) t (c .in-Continue-time .behind .now)
-        (omega (arith, size)) (f .0)
-    , length-set (c .loop-i .slots) i t ∙ inv .1
-    , small-more (c .loop-i .slots) i t (omega (arith, size, inv .1)) (f .1) (inv .2))
+    let f = c .in-Continue-time .ensures tt in (
+      times-more (c .args .bytes .now) (c .loop-i .rest .now) (c .loop-i .slots) i (inv .1) (omega (arith, size)) (inv .0) t (c .in-Continue-time .behind .now)
+          (omega (arith, size)) (f .0),
+      length-set (c .loop-i .slots) i t ∙ inv .1,
+      small-more (c .loop-i .slots) i t (omega (arith, size, inv .1)) (f .1) (inv .2),
+    )
 
 pub returns : need.returns
 returns c =
     let inv = c .loop-i .inv in
     let s = c .args .bytes .now in
-    let size = good-size (length s) (c .pre) in
-    ( omega (arith, size, inv .1)
-    , times-all s (c .loop-i .rest .now) (c .loop-i .slots) (c .loop-i .i) (inv .1) (omega (arith, size)) (inv .0) (length s / 4) (size .0) (omega arith) (omega arith)
-    , λ k h. inv .2 k (omega arith))
+    let size = good-size (length s) (c .pre) in (
+      omega (arith, size, inv .1),
+      times-all s (c .loop-i .rest .now) (c .loop-i .slots) (c .loop-i .i) (inv .1) (omega (arith, size)) (inv .0) (length s / 4) (size .0) (omega arith) (omega arith),
+      λ k h. inv .2 k (omega arith),
+    )
