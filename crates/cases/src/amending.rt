@@ -1,0 +1,54 @@
+// Amending one time of one task.
+use crate::common::done;
+use crate::common::refused;
+use crate::common::two_tasks;
+use book::book::Book;
+use std::test::*;
+
+/// The time of the second task of the two-task book at a class.
+fn time(book: &Book, class: usize) -> u32 {
+    let tasks = book.tasks();
+    if tasks.len() < 2 {
+        return 0;
+    }
+    let times = tasks[1].row.times();
+    if class < times.len() { times[class] } else { 0 }
+}
+
+#[test]
+fn amend_checks_10_5_6_7() -> Result<(), Fail> {
+    let mut book = two_tasks()?;
+    let before = book;
+    refused(book.amend(3, 9, 0), 10, &before, &book)?;
+    refused(book.amend(2, 4, 0), 5, &before, &book)?;
+    refused(book.amend(2, 255, 1), 5, &before, &book)?;
+    refused(book.amend(2, 1, 0), 6, &before, &book)?;
+    refused(book.amend(2, 0, 1_000_001), 6, &before, &book)?;
+    refused(book.amend(2, 1, 13), 7, &before, &book)?;
+    refused(book.amend(2, 1, 8), 7, &before, &book)
+}
+
+#[test]
+fn amend_at_the_first_and_the_last_class() -> Result<(), Fail> {
+    let mut book = two_tasks()?;
+    let before = book;
+    // class 0 has no time before it, the last none after it
+    done(book.amend(2, 0, 1_000_000))?;
+    check_eq(time(&book, 0), 1_000_000)?;
+    done(book.amend(2, 3, 1))?;
+    check_eq(time(&book, 3), 1)?;
+    check_eq(time(&book, 1), 9)?;
+    done(book.amend(2, 3, 5))?;
+    done(book.amend(2, 0, 12))?;
+    refused(book.amend(2, 0, 8), 7, &before, &book)?;
+    refused(book.amend(2, 3, 10), 7, &before, &book)
+}
+
+#[test]
+fn amend_may_meet_its_neighbours() -> Result<(), Fail> {
+    let mut book = two_tasks()?;
+    done(book.amend(2, 1, 12))?;
+    done(book.amend(2, 1, 9))?;
+    done(book.amend(2, 2, 5))?;
+    check_eq(time(&book, 2), 5)
+}
