@@ -4,12 +4,10 @@ ghost use Rattle.book.specs.Books.{amend-answer, append-answer, enter-answer, 
 ghost use Rattle.book.specs.Checks.{Did};
 ghost use Rattle.book.specs.Ledger.{begun, task-record};
 use crate::book::Book;
+use crate::limits::LARGEST_CACHE;
 use crate::refusal::Refusal;
 use crate::table::Table;
 use crate::task::Task;
-
-/// The largest cache that a book may have, in sets.
-const LARGEST_CACHE: u16 = 1024;
 
 impl Book {
     /// The built-in book: a cache of 1 set, and no task.

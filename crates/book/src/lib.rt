@@ -5,6 +5,7 @@ pub mod book_lists;
 pub mod book_reads;
 pub mod class;
 mod class_list;
+pub mod limits;
 mod multiple;
 pub mod refusal;
 pub mod refusal_text;

@@ -7,11 +7,10 @@ ghost use Rattle.book.specs.Classes.{time-at};
 ghost use Rattle.book.specs.Checks.{Did, Made, judged};
 ghost use Rattle.book.specs.Entering.{any-outside, rises, row-checks};
 ghost use Rattle.book.specs.Held.{times-in};
+use crate::limits::LONGEST_TIME;
+use crate::limits::MOST_TIMES;
 use crate::refusal::Refusal;
 use crate::row::Row;
-
-/// The longest execution time that a row may hold, in ticks.
-const LONGEST_TIME: u32 = 1_000_000;
 
 /// Whether some time is not 1 to 1,000,000.
 fn any_outside(times: &[u32]) -> bool
@@ -43,7 +42,7 @@ impl Row {
         ensures { λ r. ⌜ Made times-in (judged (row-checks (now (times .entry))) (now (times .entry))) r ⌝ }
     {
         let count = times.len();
-        if count < 1 || count > 11 {
+        if count < 1 || count > MOST_TIMES {
             return Err(Refusal::Class);
         }
         if any_outside(times) {

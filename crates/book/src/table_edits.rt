@@ -8,18 +8,14 @@ ghost use Rattle.book.specs.Entering.{append-last, enter-among, last-number, r
 ghost use Rattle.book.specs.Held.{record-of};
 ghost use Rattle.book.specs.Places.{Between, Found};
 ghost use Rattle.std.specs.Holes.{inserted};
+use crate::limits::LONGEST_CYCLE;
+use crate::limits::MOST_TASKS;
 use crate::multiple::lcm;
 use crate::refusal::Refusal;
 use crate::slots::insert_at;
 use crate::slots::withdraw_at;
 use crate::table::Table;
 use crate::task::Task;
-
-/// The most tasks that a table holds.
-const MOST_TASKS: usize = 16;
-
-/// The longest hyperperiod that a table may have, in ticks.
-const LONGEST_CYCLE: u64 = 10_000_000_000;
 
 impl Table {
     /// The table of no task.

@@ -5,12 +5,10 @@ ghost use Rattle.book.specs.Checks.{Did, Made, judged};
 ghost use Rattle.book.specs.Entering.{task-checks};
 ghost use Rattle.book.specs.Held.{Kept, blank, fields, record-of};
 ghost use Rattle.book.specs.Ledger.{task-record};
+use crate::limits::LONGEST_PERIOD;
 use crate::refusal::Refusal;
 use crate::row::Row;
 use crate::task::Task;
-
-/// The longest period that a task may have, in ticks.
-const LONGEST_PERIOD: u32 = 1_000_000;
 
 impl Task {
     /// The task of these parts, if they keep the rules of a task.

@@ -18,7 +18,12 @@ pub fn done(answer: Result<(), Refusal>) -> Result<(), Fail> {
 }
 
 /// The call was refused by this number, and the whole book is as it was.
-pub fn refused(answer: Result<(), Refusal>, by: u8, before: &Book, after: &Book) -> Result<(), Fail> {
+pub fn refused(
+    answer: Result<(), Refusal>,
+    by: u8,
+    before: &Book,
+    after: &Book,
+) -> Result<(), Fail> {
     check_eq(number(answer), by)?;
     check(before == after)
 }

@@ -28,7 +28,12 @@ fn enter_refuses_by_the_first_check_that_applies() -> Result<(), Fail> {
     refused(book.enter(3, 10, 0, &[]), 4, &before, &book)?;
     refused(book.enter(3, 10, 11, &[]), 4, &before, &book)?;
     refused(book.enter(3, 10, 10, &[]), 5, &before, &book)?;
-    refused(book.enter(3, 10, 10, &[9, 9, 9, 9, 9, 9, 9, 9, 9, 9, 9, 0]), 5, &before, &book)?;
+    refused(
+        book.enter(3, 10, 10, &[9, 9, 9, 9, 9, 9, 9, 9, 9, 9, 9, 0]),
+        5,
+        &before,
+        &book,
+    )?;
     refused(book.enter(3, 10, 10, &[1, 2, 0]), 6, &before, &book)?;
     refused(book.enter(3, 10, 10, &[1_000_001]), 6, &before, &book)?;
     refused(book.enter(1, 10, 10, &[1, 2]), 7, &before, &book)?;

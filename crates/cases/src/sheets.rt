@@ -10,8 +10,57 @@ use std::test::*;
 
 /// The sheet of the two-task book.
 const TWO_TASKS: [u8; 51] = [
-    1, 0, 4, 21, 1, 0, 0, 0, 10, 0, 0, 0, 5, 0, 0, 0, 4, 0, 0, 0, 3, 0, 0, 0, 2, 25, 2, 0, 0, 0, 20, 0, 0, 0, 20, 0, 0, 0, 12, 0, 0, 0, 9, 0, 0, 0,
-    9, 0, 0, 0, 5,
+    1,
+    0,
+    4,
+    21,
+    1,
+    0,
+    0,
+    0,
+    10,
+    0,
+    0,
+    0,
+    5,
+    0,
+    0,
+    0,
+    4,
+    0,
+    0,
+    0,
+    3,
+    0,
+    0,
+    0,
+    2,
+    25,
+    2,
+    0,
+    0,
+    0,
+    20,
+    0,
+    0,
+    0,
+    20,
+    0,
+    0,
+    0,
+    12,
+    0,
+    0,
+    0,
+    9,
+    0,
+    0,
+    0,
+    9,
+    0,
+    0,
+    0,
+    5,
 ];
 
 /// The sheet is refused by this number at this place, and the whole book is as it was.
@@ -124,7 +173,12 @@ fn largest() -> Result<Book, Fail> {
     let mut book = Book::new();
     done(book.make(1024))?;
     for number in 240..256u16 {
-        done(book.enter((number & 255) as u8, 1000, 1000, &[11, 10, 9, 8, 7, 6, 5, 4, 3, 2, 1]))?;
+        done(book.enter(
+            (number & 255) as u8,
+            1000,
+            1000,
+            &[11, 10, 9, 8, 7, 6, 5, 4, 3, 2, 1],
+        ))?;
     }
     Ok(book)
 }

@@ -14,6 +14,9 @@ use book::book::Book;
 use book::refusal::Refusal;
 use book::task::Task;
 
+/// The longest sheet of a book: a head of 3 bytes, and sixteen records of 54.
+pub const LONGEST_SHEET: usize = 867;
+
 /// Puts the bytes into the buffer from `at` on; gives the place behind them.
 fn put(buffer: &mut [u8], at: usize, bytes: &[u8]) -> usize
     requires { ⌜ at + length (now bytes) ≤ length (now buffer) ⌝ }
