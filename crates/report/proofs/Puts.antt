@@ -12,6 +12,7 @@ use Rattle.std.specs.Written.{decimal}
 use Rattle.book.specs.Held.{record-of}
 use Rattle.book.specs.Ledger.{TaskRecord}
 use Rattle.book.specs.declared.task.Task.{Task}
+use Rattle.sheet.proofs.Writes.{front-more}
 use Rattle.report.specs.Held.{text-in}
 use Rattle.report.specs.declared.text.Text.{Text}
 use Rattle.report.specs.Texts.{spaced, task-line, task-lines}
@@ -67,9 +68,7 @@ module _ {X : Type 0} (F : List X → List ℕ) (G : X → List ℕ) (joins : (x
   pub puts-more : (xs : List X) (i : ℕ) (x : X) (t u v : List ℕ) → i < length xs → x ≡ getD xs i x → u ≡ t ++ F (take i xs) → v ≡ u ++ G x
       → v ≡ t ++ F (take (i + 1) xs)
   puts-more xs i x t u v lt e f g =
-      two-puts t u v (F (take i xs)) (G x) f g
-      ∙ ap (λ zs. t ++ zs)
-      (sym (ap F (take-more xs i x lt ∙ ap (λ y. take i xs ++ y ∷ []) (sym e)) ∙ joins (take i xs) (x ∷ []) ∙ ap (λ zs. F (take i xs) ++ zs) (one x)))
+      two-puts t u v (F (take i xs)) (G x) f g ∙ ap (λ zs. t ++ zs) (sym (front-more F G joins one xs i x lt e))
 
 pub spaced-joins : (xs ys : List ℕ) → spaced (xs ++ ys) ≡ spaced xs ++ spaced ys
 spaced-joins [] ys = refl

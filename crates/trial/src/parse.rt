@@ -42,7 +42,7 @@ pub impl<T: Drop> From<Refused<T>> for Unread as UnreadFromRefused {
 }
 
 /// The call of a line.
-pub fn parse(heap: Global, line: &[u8]) -> Result<Call, Unread> {
+pub(crate) fn parse(heap: Global, line: &[u8]) -> Result<Call, Unread> {
     let words: Vec<&str> = from_utf8(line)?.split_whitespace().collect(heap)?;
     match words.as_slice() {
         ["make", size] => Ok(Call::Make {

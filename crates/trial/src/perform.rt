@@ -15,7 +15,7 @@ use std::alloc::Global;
 const UNTOUCHED: u8 = 0xaa;
 
 /// Carries out a call. Only a buffer to write into takes memory.
-pub fn perform(heap: Global, book: &mut Book, call: &Call) -> Result<Answer, AllocError> {
+pub(crate) fn perform(heap: Global, book: &mut Book, call: &Call) -> Result<Answer, AllocError> {
     let answer = match call {
         Call::Make { size } => edited(book.make(*size), book),
         Call::Enter(new) => edited(
