@@ -1,12 +1,10 @@
 // The answers to the calls of a script.
 use book::book::Book;
+use book::limits::MOST_TASKS;
 use book::refusal::Refusal;
 use sheet::fault::Fault;
 
-/// The most tasks that a book may have: a buffer of as many places is never too short for a class list.
-pub const MOST_TASKS: usize = 16;
-
-/// What a call put into the front of a buffer.
+/// What a call put into the front of a buffer, which has a place for each task that a book may have.
 #[derive(Drop)]
 pub struct Front<T> {
     pub buffer: [T; MOST_TASKS],

@@ -2,9 +2,9 @@
 use crate::answer::Answer;
 use crate::answer::Front;
 use crate::answer::ListAnswers;
-use crate::answer::MOST_TASKS;
 use crate::call::Call;
 use book::book::Book;
+use book::limits::MOST_TASKS;
 use book::refusal::Refusal;
 use sheet::load::load;
 use sheet::write::write;
