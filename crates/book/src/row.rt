@@ -6,7 +6,7 @@ ghost use Rattle.book.specs.Rules.{Falling, Within};
 
 /// The worst-case execution times of a task by partition class: 1 to 11 times of 1 to 1,000,000 ticks, none above the one before it.
 /// The slots behind them hold 1, so that equal rows are equal values.
-#[derive(Clone, Copy, PartialEq, Eq, Debug)]
+#[derive(Clone, Copy, PartialEq, Eq)]
 pub struct Row {
     pub(crate) times: [u32; 11],
     pub(crate) count: usize,

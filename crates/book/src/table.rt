@@ -7,12 +7,11 @@ ghost use Rattle.book.specs.Held.{blank, fields, numbers, periods};
 ghost use Rattle.book.specs.Hyperperiod.{hyperperiod};
 ghost use Rattle.book.specs.Rules.{Ascending};
 use crate::task::Task;
-use crate::task::TaskDebug;
 use crate::task::TaskPartialEq;
 
 /// At most sixteen tasks in ascending order of number, and the least common multiple of their periods, at most 10,000,000,000.
 /// The slots behind the tasks hold one fixed task, so that equal tables are equal values.
-#[derive(Clone, Copy, PartialEq, Eq, Debug)]
+#[derive(Clone, Copy, PartialEq, Eq)]
 pub(crate) struct Table {
     pub(crate) tasks: [Task; 16],
     pub(crate) count: usize,

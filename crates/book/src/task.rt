@@ -1,11 +1,10 @@
 // A task: the record that a book keeps of one sporadic task.
 ghost use Prim.Native.Nat.{_≤_};
 use crate::row::Row;
-use crate::row::RowDebug;
 use crate::row::RowPartialEq;
 
 /// One sporadic task. Its fields are open, since the ghost fields hold of every task that can be made.
-#[derive(Clone, Copy, PartialEq, Eq, Debug)]
+#[derive(Clone, Copy, PartialEq, Eq)]
 pub struct Task {
     /// 1 to 255; the smaller, the higher the priority.
     pub number: u8,

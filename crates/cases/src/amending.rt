@@ -19,29 +19,34 @@ fn time(book: &Book, class: usize) -> u32 {
 fn amend_checks_10_5_6_7() -> Result<(), Fail> {
     let mut book = two_tasks()?;
     let before = book;
-    refused(book.amend(3, 9, 0), 10, &before, &book)?;
-    refused(book.amend(2, 4, 0), 5, &before, &book)?;
-    refused(book.amend(2, 255, 1), 5, &before, &book)?;
-    refused(book.amend(2, 1, 0), 6, &before, &book)?;
-    refused(book.amend(2, 0, 1_000_001), 6, &before, &book)?;
-    refused(book.amend(2, 1, 13), 7, &before, &book)?;
-    refused(book.amend(2, 1, 8), 7, &before, &book)
+    // number, class, time and the number of the refusal
+    let cases = [
+        (3, 9, 0, 10),
+        (2, 4, 0, 5),
+        (2, 255, 1, 5),
+        (2, 1, 0, 6),
+        (2, 0, 1_000_001, 6),
+        (2, 1, 13, 7),
+        (2, 1, 8, 7),
+        (2, 0, 8, 7),
+        (2, 3, 10, 7),
+    ];
+    for (number, class, time, by) in cases {
+        let answer = book.amend(number, class, time);
+        refused(answer, by, &before, &book)?;
+    }
+    Ok(())
 }
 
 #[test]
 fn amend_at_the_first_and_the_last_class() -> Result<(), Fail> {
     let mut book = two_tasks()?;
-    let before = book;
     // class 0 has no time before it, the last none after it
     done(book.amend(2, 0, 1_000_000))?;
     check_eq(time(&book, 0), 1_000_000)?;
     done(book.amend(2, 3, 1))?;
     check_eq(time(&book, 3), 1)?;
-    check_eq(time(&book, 1), 9)?;
-    done(book.amend(2, 3, 5))?;
-    done(book.amend(2, 0, 12))?;
-    refused(book.amend(2, 0, 8), 7, &before, &book)?;
-    refused(book.amend(2, 3, 10), 7, &before, &book)
+    check_eq(time(&book, 1), 9)
 }
 
 #[test]

@@ -21,23 +21,28 @@ fn a_cache_has_1_to_1024_sets() -> Result<(), Fail> {
 fn enter_refuses_by_the_first_check_that_applies() -> Result<(), Fail> {
     let mut book = two_tasks()?;
     let before = book;
-    // the row is empty too, and so on: the earlier check decides
-    refused(book.enter(0, 0, 0, &[]), 2, &before, &book)?;
-    refused(book.enter(3, 0, 0, &[]), 3, &before, &book)?;
-    refused(book.enter(3, 1_000_001, 0, &[]), 3, &before, &book)?;
-    refused(book.enter(3, 10, 0, &[]), 4, &before, &book)?;
-    refused(book.enter(3, 10, 11, &[]), 4, &before, &book)?;
-    refused(book.enter(3, 10, 10, &[]), 5, &before, &book)?;
-    refused(
-        book.enter(3, 10, 10, &[9, 9, 9, 9, 9, 9, 9, 9, 9, 9, 9, 0]),
-        5,
-        &before,
-        &book,
-    )?;
-    refused(book.enter(3, 10, 10, &[1, 2, 0]), 6, &before, &book)?;
-    refused(book.enter(3, 10, 10, &[1_000_001]), 6, &before, &book)?;
-    refused(book.enter(1, 10, 10, &[1, 2]), 7, &before, &book)?;
-    refused(book.enter(1, 10, 10, &[1]), 8, &before, &book)
+    // number, period, deadline, the first and second of as many times, and the number of the refusal: a later check would
+    // apply to most of them too
+    let cases = [
+        (0, 0, 0, [9, 9], 0, 2),
+        (3, 0, 0, [9, 9], 0, 3),
+        (3, 1_000_001, 0, [9, 9], 0, 3),
+        (3, 10, 0, [9, 9], 0, 4),
+        (3, 10, 11, [9, 9], 0, 4),
+        (3, 10, 10, [9, 9], 0, 5),
+        (3, 10, 10, [0, 9], 12, 5),
+        (3, 10, 10, [1, 2], 3, 6),
+        (3, 10, 10, [1_000_001, 9], 1, 6),
+        (1, 10, 10, [1, 2], 2, 7),
+        (1, 10, 10, [1, 1], 2, 8),
+    ];
+    for (number, period, deadline, [first, second], count, by) in cases {
+        let times = [first, second, 0, 0, 0, 0, 0, 0, 0, 0, 0, 0];
+        check(count <= 12)?;
+        let answer = book.enter(number, period, deadline, &times[0..count]);
+        refused(answer, by, &before, &book)?;
+    }
+    Ok(())
 }
 
 #[test]

@@ -77,14 +77,6 @@ fn refused(sheet: &[u8], by: u8, at: usize) -> Result<(), Fail> {
     check(book == before)
 }
 
-/// The two-task sheet with one byte changed is refused.
-fn changed(index: usize, byte: u8, by: u8, at: usize) -> Result<(), Fail> {
-    let mut sheet = TWO_TASKS;
-    check(index < 51)?;
-    sheet[index] = byte;
-    refused(&sheet, by, at)
-}
-
 #[test]
 fn the_two_task_sheet_loads_and_is_written_back() -> Result<(), Fail> {
     let mut book = Book::new();
@@ -117,32 +109,54 @@ fn the_shortest_sheet_is_an_empty_book() -> Result<(), Fail> {
 
 #[test]
 fn heads_are_refused_at_0() -> Result<(), Fail> {
-    refused(&[], 21, 0)?;
-    refused(&[2], 20, 0)?;
-    refused(&[1], 21, 0)?;
-    refused(&[1, 0], 21, 0)?;
-    refused(&[1, 0, 0], 1, 0)?;
-    refused(&[1, 4, 1], 1, 0)?;
-    // the version comes before the length, the size before any record
-    refused(&[2, 0], 20, 0)?;
-    refused(&[1, 0, 0, 99], 1, 0)
+    // the bytes, how many of them there are, and the number of the refusal: the version comes before the length, the size
+    // before any record
+    let cases = [
+        ([1, 0, 1, 0], 0, 21),
+        ([2, 0, 1, 0], 1, 20),
+        ([1, 0, 1, 0], 1, 21),
+        ([2, 0, 1, 0], 2, 20),
+        ([1, 0, 1, 0], 2, 21),
+        ([1, 0, 0, 0], 3, 1),
+        ([1, 4, 1, 0], 3, 1),
+        ([1, 0, 0, 99], 4, 1),
+    ];
+    for (sheet, count, by) in cases {
+        check(count <= 4)?;
+        refused(&sheet[0..count], by, 0)?;
+    }
+    Ok(())
+}
+
+#[test]
+fn a_cut_record_is_refused_at_its_length_byte() -> Result<(), Fail> {
+    refused(&TWO_TASKS[0..50], 21, 25)?;
+    refused(&TWO_TASKS[0..26], 21, 25)
 }
 
 #[test]
 fn records_are_refused_at_their_length_byte() -> Result<(), Fail> {
-    refused(&TWO_TASKS[0..50], 21, 25)?;
-    refused(&TWO_TASKS[0..26], 21, 25)?;
-    changed(25, 9, 22, 25)?;
-    changed(25, 57, 22, 25)?;
-    changed(25, 26, 22, 25)?;
-    changed(25, 29, 21, 25)?;
-    changed(26, 0, 2, 25)?;
-    changed(30, 0, 3, 25)?;
-    changed(34, 21, 4, 25)?;
-    changed(38, 0, 6, 25)?;
-    changed(42, 13, 7, 25)?;
-    changed(26, 1, 23, 25)?;
-    changed(4, 3, 23, 25)
+    // the place of a byte, its new value, and the number of the refusal of the second record
+    let cases = [
+        (25, 9, 22),
+        (25, 57, 22),
+        (25, 26, 22),
+        (25, 29, 21),
+        (26, 0, 2),
+        (30, 0, 3),
+        (34, 21, 4),
+        (38, 0, 6),
+        (42, 13, 7),
+        (26, 1, 23),
+        (4, 3, 23),
+    ];
+    for (index, byte, by) in cases {
+        let mut sheet = TWO_TASKS;
+        check(index < 51)?;
+        sheet[index] = byte;
+        refused(&sheet, by, 25)?;
+    }
+    Ok(())
 }
 
 #[test]
