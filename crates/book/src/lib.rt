@@ -1,4 +1,6 @@
 // The book of tasks: what a planner is given, kept so that no book that breaks a rule can exist.
+#![tactic(auto)]
+
 pub mod book;
 pub mod book_edits;
 pub mod book_lists;

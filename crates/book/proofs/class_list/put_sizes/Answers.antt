@@ -10,8 +10,8 @@ loop-i-init c = refl
 pub loop-i-preserved : goal.loop-i-preserved
 loop-i-preserved c =
     let cs = c.args.classes.now in
-    front_more (sizes cs) c.args.buffer.now c.loop-i.buffer c.loop-i.i c.sets-of.result (omega (arith, length-map cs class_size)) (omega arith)
-    c.loop-i.invariant (size_at cs c.loop-i.i c.sets-of.result (omega arith) c.sets-of.ensures.value)
+    front_more (sizes cs) c.args.buffer.now c.loop-i.buffer c.loop-i.i c.sets_of.result (omega (arith, length-map cs class_size)) (omega arith)
+    c.loop-i.invariant (size_at cs c.loop-i.i c.sets_of.result (omega arith) c.sets_of.ensures.value)
 
 pub returns : goal.returns
 returns c =

@@ -6,9 +6,9 @@ use Rattle.book.proofs.class_list.total_size.Goals as goal
 
 pub loop-class-preserved : goal.loop-class-preserved
 loop-class-preserved c = (
-  sizes_more c.args.classes.now c.loop-class.class-index c.loop-class.sum c.sets-of.result (omega arith) c.sets-of.ensures.value
+  sizes_more c.args.classes.now c.loop-class.class-index c.loop-class.sum c.sets_of.result (omega arith) c.sets_of.ensures.value
       c.loop-class.invariant.0,
-  omega (arith, c.loop-class.invariant, c.sets-of.ensures.bound),
+  omega (arith, c.loop-class.invariant, c.sets_of.ensures.bound),
 )
 
 pub returns : goal.returns

@@ -3,12 +3,12 @@ use Rattle.std.proofs.lemmas.List.{drop_all}
 use Rattle.book.proofs.ClassLists.{work_fits, work_left, work_more}
 use Rattle.book.proofs.class_list.total_work.Goals as goal
 
-pub overflow-mul-sum : goal.overflow-mul-sum
-overflow-mul-sum c =
+pub overflow_mul-sum : goal.overflow_mul-sum
+overflow_mul-sum c =
     record { fits = omega (arith, work_fits c.args.cycle c.index-tasks-i.result.period c.time.result c.requires.within c.time.ensures.bound) }
 
-pub overflow-add-sum : goal.overflow-add-sum
-overflow-add-sum c =
+pub overflow_add-sum : goal.overflow_add-sum
+overflow_add-sum c =
     record {
       fits = omega (arith, c.loop-i.invariant.1, work_fits c.args.cycle c.index-tasks-i.result.period c.time.result c.requires.within c.time.ensures.bound);
     }

@@ -8,18 +8,18 @@ pub hyperperiod-requires : goal.hyperperiod-requires
 hyperperiod-requires c =
     let n = c.args.count in
     let whole : n - 1 - 0 ≡ n - 1 = omega arith in
-    subst (λ k. hyperperiod (periods c.remove-at.new.tasks k) ≤ 10000000000) (sym whole)
-    (left_within c.args.tasks.now c.remove-at.new.tasks n c.args.at (omega arith) (omega arith) c.remove-at.ensures.front c.requires.cyclic)
+    subst (λ k. hyperperiod (periods c.remove_at.new.tasks k) ≤ 10000000000) (sym whole)
+    (left_within c.args.tasks.now c.remove_at.new.tasks n c.args.at (omega arith) (omega arith) c.remove_at.ensures.front c.requires.cyclic)
 
 pub returns : goal.returns
 returns c =
     let n = c.args.count in
-    let new = c.remove-at.new.tasks in
+    let new = c.remove_at.new.tasks in
     let whole : n - 1 - 0 ≡ n - 1 = omega arith in
     let is : c.hyperperiod.result ≡ hyperperiod (periods new (n - 1)) = c.hyperperiod.ensures ∙ ap (λ k. hyperperiod (periods new k)) whole in
     record {
-      front = c.remove-at.ensures.front;
-      rest = c.remove-at.ensures.rest;
+      front = c.remove_at.ensures.front;
+      rest = c.remove_at.ensures.rest;
       cycle = is;
-      within = omega (arith, left_within c.args.tasks.now new n c.args.at (omega arith) (omega arith) c.remove-at.ensures.front c.requires.cyclic);
+      within = omega (arith, left_within c.args.tasks.now new n c.args.at (omega arith) (omega arith) c.remove_at.ensures.front c.requires.cyclic);
     }

@@ -5,11 +5,11 @@ use Rattle.book.specs.Ledger.{task_record}
 use Rattle.book.proofs.Books.{book_entered, book_refused, by_number}
 use Rattle.book.proofs.book.Book.enter.Goals as goal
 
-pub returns-in-err-task : goal.returns-in-err-task
-returns-in-err-task c =
+pub returns-in_err-task : goal.returns-in_err-task
+returns-in_err-task c =
     let t = task_record c.args.number c.args.period c.args.deadline c.args.times.now in
-    let p = err_from_is_err_and c.from-residual.result c.from-residual.ensures.1 in
-    rw (p.1, p.2) (book_refused by_number entered c.args.self.now t _ c.in-err-task.ensures, refl)
+    let p = err_from_is_err_and c.from_residual.result c.from_residual.ensures.1 in
+    rw (p.1, p.2) (book_refused by_number entered c.args.self.now t _ c.in_err-task.ensures, refl)
 
 pub returns : goal.returns
-returns c = let made = c.in-ok-task.ensures in search (rules, book_entered)
+returns c = let made = c.in_ok-task.ensures in search (rules, book_entered)

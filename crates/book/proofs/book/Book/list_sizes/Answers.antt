@@ -9,12 +9,12 @@ pub returns-then-buffer-count : goal.returns-then-buffer-count
 returns-then-buffer-count c =
     let ts = records_in c.args.self.now.table in
     let cs = c.args.classes.now in
-    let named = list_passes ts cs c.in-ok-check-list.field-0 c.in-ok-check-list.ensures in
+    let named = list_passes ts cs c.in_ok-check_list.field-0 c.in_ok-check_list.ensures in
     (put_short ts cs (sizes cs) c.args.buffer.now named (omega (arith, length-map cs class_size)), refl)
 
 pub returns : goal.returns
 returns c =
     let ts = records_in c.args.self.now.table in
     let cs = c.args.classes.now in
-    let named = list_passes ts cs c.in-ok-check-list.field-0 c.in-ok-check-list.ensures in
-    put_done ts cs (sizes cs) c.args.buffer.now named c.put-sizes.new.buffer _ (length-map cs class_size) (omega arith) c.put-sizes.ensures
+    let named = list_passes ts cs c.in_ok-check_list.field-0 c.in_ok-check_list.ensures in
+    put_done ts cs (sizes cs) c.args.buffer.now named c.put_sizes.new.buffer _ (length-map cs class_size) (omega arith) c.put_sizes.ensures

@@ -18,21 +18,14 @@ returns-then-self-class c =
     )
 
 -- the row's rules, after the write of one time
-pub invariant-of-self : goal.invariant-of-self
-invariant-of-self c =
-    let s = c.args.self.now in (
-      search rules,
-      (
-        within_set s.times s.count c.args.class c.args.time (omega arith) (omega arith) (omega arith) s.within,
-        (
-          falling_set s.times s.count c.args.class c.args.time (omega arith) (search rules) (search rules) s.falling,
-          (
-            drop-set-lt s.count s.times c.args.class c.args.time (omega arith) ∙ s.spare,
-            tt,
-          ),
-        ),
-      ),
-    )
+pub invariant_of-self : goal.invariant_of-self
+invariant_of-self c =
+    let s = c.args.self.now in record {
+      sized = search rules;
+      within = within_set s.times s.count c.args.class c.args.time (omega arith) (omega arith) (omega arith) s.within;
+      falling = falling_set s.times s.count c.args.class c.args.time (omega arith) (search rules) (search rules) s.falling;
+      spare = drop-set-lt s.count s.times c.args.class c.args.time (omega arith) ∙ s.spare;
+    }
 
 pub returns : goal.returns
 returns c =
