@@ -9,8 +9,8 @@ use Rattle.report.specs.Texts.{line_end, task_lines}
 use Rattle.report.proofs.Puts.{five_puts, from_empty, two_puts}
 use Rattle.report.proofs.describe.describe_book.Goals as goal
 
-pub put-tasks-requires : goal.put-tasks-requires
-put-tasks-requires c =
+pub put_tasks-requires : goal.put_tasks-requires
+put_tasks-requires c =
     let ts = c.tasks.result.now in
     omega (
       arith,
@@ -18,12 +18,12 @@ put-tasks-requires c =
       ap length c.tasks.ensures.value,
       c.tasks.ensures.keeps.few,
       c.empty-text.ensures,
-      c.put-labelled.ensures.few,
+      c.put_labelled.ensures.few,
       c.put.ensures.count,
     )
 
-pub put-labelled-requires-2 : goal.put-labelled-requires-2
-put-labelled-requires-2 c =
+pub put_labelled-requires-2 : goal.put_labelled-requires-2
+put_labelled-requires-2 c =
     let ts = c.tasks.result.now in
     omega (
       arith,
@@ -31,13 +31,13 @@ put-labelled-requires-2 c =
       ap length c.tasks.ensures.value,
       c.tasks.ensures.keeps.few,
       c.empty-text.ensures,
-      c.put-labelled.ensures.few,
+      c.put_labelled.ensures.few,
       c.put.ensures.count,
-      c.put-tasks.ensures.few,
+      c.put_tasks.ensures.few,
     )
 
-pub put-labelled-requires-3 : goal.put-labelled-requires-3
-put-labelled-requires-3 c =
+pub put_labelled-requires-3 : goal.put_labelled-requires-3
+put_labelled-requires-3 c =
     let ts = c.tasks.result.now in
     omega (
       arith,
@@ -45,10 +45,10 @@ put-labelled-requires-3 c =
       ap length c.tasks.ensures.value,
       c.tasks.ensures.keeps.few,
       c.empty-text.ensures,
-      c.put-labelled.ensures.few,
+      c.put_labelled.ensures.few,
       c.put.ensures.count,
-      c.put-tasks.ensures.few,
-      c.put-labelled-2.ensures.few,
+      c.put_tasks.ensures.few,
+      c.put_labelled-2.ensures.few,
     )
 
 pub put-requires-2 : goal.put-requires-2
@@ -60,11 +60,11 @@ put-requires-2 c =
       ap length c.tasks.ensures.value,
       c.tasks.ensures.keeps.few,
       c.empty-text.ensures,
-      c.put-labelled.ensures.few,
+      c.put_labelled.ensures.few,
       c.put.ensures.count,
-      c.put-tasks.ensures.few,
-      c.put-labelled-2.ensures.few,
-      c.put-labelled-3.ensures.few,
+      c.put_tasks.ensures.few,
+      c.put_labelled-2.ensures.few,
+      c.put_labelled-3.ensures.few,
     )
 
 pub returns : goal.returns
@@ -75,12 +75,12 @@ returns c =
     let d = codes "task count " ++ decimal (length l.tasks) in
     let e = codes ", hyperperiod " ++ decimal (hyperperiod (map period_of l.tasks)) in
     from_empty empty (text_in c.put-2.new.self) _ c.empty-text.ensures
-    (two_puts (text_in empty) (text_in c.put-labelled-3.new.self) (text_in c.put-2.new.self) (a ++ line_end ++ task_lines l.tasks ++ d ++ e) line_end
-    (five_puts (text_in empty) (text_in c.put-labelled.new.self) (text_in c.put.new.self) (text_in c.put-tasks.new.text)
-    (text_in c.put-labelled-2.new.self) (text_in c.put-labelled-3.new.self) a line_end (task_lines l.tasks) d e
-    (c.put-labelled.ensures.after ∙ ap (λ n. text_in empty ++ (codes "cache size " ++ decimal n)) c.cache-size.ensures) c.put.ensures.after
-    (c.put-tasks.ensures.after ∙ ap (λ rs. text_in c.put.new.self ++ task_lines rs) c.tasks.ensures.value)
-    (c.put-labelled-2.ensures.after ∙ ap (λ n. text_in c.put-tasks.new.text ++ (codes "task count " ++ decimal n)) c.task-count.ensures)
-    (c.put-labelled-3.ensures.after
-    ∙ ap (λ n. text_in c.put-labelled-2.new.self ++ (codes ", hyperperiod " ++ decimal n)) c.hyperperiod.ensures.value))
+    (two_puts (text_in empty) (text_in c.put_labelled-3.new.self) (text_in c.put-2.new.self) (a ++ line_end ++ task_lines l.tasks ++ d ++ e) line_end
+    (five_puts (text_in empty) (text_in c.put_labelled.new.self) (text_in c.put.new.self) (text_in c.put_tasks.new.text)
+    (text_in c.put_labelled-2.new.self) (text_in c.put_labelled-3.new.self) a line_end (task_lines l.tasks) d e
+    (c.put_labelled.ensures.after ∙ ap (λ n. text_in empty ++ (codes "cache size " ++ decimal n)) c.cache_size.ensures) c.put.ensures.after
+    (c.put_tasks.ensures.after ∙ ap (λ rs. text_in c.put.new.self ++ task_lines rs) c.tasks.ensures.value)
+    (c.put_labelled-2.ensures.after ∙ ap (λ n. text_in c.put_tasks.new.text ++ (codes "task count " ++ decimal n)) c.task_count.ensures)
+    (c.put_labelled-3.ensures.after
+    ∙ ap (λ n. text_in c.put_labelled-2.new.self ++ (codes ", hyperperiod " ++ decimal n)) c.hyperperiod.ensures.value))
     c.put-2.ensures.after)

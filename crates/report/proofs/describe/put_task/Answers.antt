@@ -17,20 +17,20 @@ returns c =
     let row = c.times.ensures in
     record {
       after =
-          two_puts (text_in c.args.text.now) (text_in c.put-times.new.self) (text_in c.put-2.new.self) (a ++ b ++ d ++ e ++ f) line_end
-          (five_puts (text_in c.args.text.now) (text_in c.put-labelled.new.self) (text_in c.put-labelled-2.new.self)
-          (text_in c.put-labelled-3.new.self) (text_in c.put.new.self) (text_in c.put-times.new.self) a b d e f
-          c.put-labelled.ensures.after c.put-labelled-2.ensures.after c.put-labelled-3.ensures.after c.put.ensures.after
-          (c.put-times.ensures.after ∙ ap (λ ts. text_in c.put.new.self ++ spaced ts) row))
+          two_puts (text_in c.args.text.now) (text_in c.put_times.new.self) (text_in c.put-2.new.self) (a ++ b ++ d ++ e ++ f) line_end
+          (five_puts (text_in c.args.text.now) (text_in c.put_labelled.new.self) (text_in c.put_labelled-2.new.self)
+          (text_in c.put_labelled-3.new.self) (text_in c.put.new.self) (text_in c.put_times.new.self) a b d e f
+          c.put_labelled.ensures.after c.put_labelled-2.ensures.after c.put_labelled-3.ensures.after c.put.ensures.after
+          (c.put_times.ensures.after ∙ ap (λ ts. text_in c.put.new.self ++ spaced ts) row))
           c.put-2.ensures.after;
       few =
           omega (
             arith,
-            c.put-labelled.ensures.few,
-            c.put-labelled-2.ensures.few,
-            c.put-labelled-3.ensures.few,
+            c.put_labelled.ensures.few,
+            c.put_labelled-2.ensures.few,
+            c.put_labelled-3.ensures.few,
             c.put.ensures.count,
-            c.put-times.ensures.few,
+            c.put_times.ensures.few,
             c.put-2.ensures.count,
             ap length row,
             length-take-le t.row.count t.row.times (omega (arith, t.row.sized)),

@@ -10,8 +10,8 @@ loop-task-init c = (sym (append-nil (text_in c.args.text.now)), omega arith)
 pub loop-task-preserved : goal.loop-task-preserved
 loop-task-preserved c = (
   puts_more lines_of line_of lines_joins lines_one c.args.tasks.now c.loop-task.task-index c.task-item.result (text_in c.args.text.now)
-      (text_in c.loop-task.text) (text_in c.put-task.new.text) (omega arith) c.task-item.is c.loop-task.invariant.0 c.put-task.ensures.after,
-  omega (arith, c.loop-task.invariant.1, c.put-task.ensures.few),
+      (text_in c.loop-task.text) (text_in c.put_task.new.text) (omega arith) c.task-item.is c.loop-task.invariant.0 c.put_task.ensures.after,
+  omega (arith, c.loop-task.invariant.1, c.put_task.ensures.few),
 )
 
 pub returns : goal.returns

@@ -3,11 +3,11 @@ use Rattle.std.proofs.lemmas.Result.{err_from_is_err_and}
 use Rattle.sheet.proofs.Loads.{loads_itself, refused_unwritten}
 use Rattle.sheet.proofs.load.load.Goals as goal
 
-pub returns-in-err-book : goal.returns-in-err-book
-returns-in-err-book c =
+pub returns-in_err-book : goal.returns-in_err-book
+returns-in_err-book c =
     let s = c.args.sheet.now in
-    let p = err_from_is_err_and c.from-residual.result c.from-residual.ensures.1 in
-    let e = c.in-err-book.ensures in
+    let p = err_from_is_err_and c.from_residual.result c.from_residual.ensures.1 in
+    let e = c.in_err-book.ensures in
     rw (p.1, p.2)
     (record {
       answer = (e, refl);
@@ -17,5 +17,5 @@ returns-in-err-book c =
 
 pub returns : goal.returns
 returns c =
-    let e = c.in-ok-book.ensures in
-    record { answer = e.0; written = e.1; itself = λ b. loads_itself c.args.sheet.now c.in-ok-book.field-0 b e.0 }
+    let e = c.in_ok-book.ensures in
+    record { answer = e.0; written = e.1; itself = λ b. loads_itself c.args.sheet.now c.in_ok-book.field-0 b e.0 }

@@ -6,6 +6,6 @@ pub returns : goal.returns
 returns c =
     let s = c.args.bytes.now in
     let whole : 4 ≤ length s = search rules in (
-      field_split s c.from-be-bytes.result whole (omega arith) (omega arith) (omega arith) (omega arith) c.from-be-bytes.ensures,
-      c.from-be-bytes.type-inv,
+      field_split s c.from_be_bytes.result whole (omega arith) (omega arith) (omega arith) (omega arith) c.from_be_bytes.ensures,
+      c.from_be_bytes.type_inv,
     )

@@ -8,6 +8,6 @@ returns c =
     let t = take (length s - 1) (drop 1 s) in
     let some : 1 ≤ length s = search rules in
     let whole : 2 ≤ length t = search rules in (
-      head_split s t c.from-be-bytes.result some refl c.if-version-ne1.false whole (omega arith) (omega arith) c.from-be-bytes.ensures,
-      c.from-be-bytes.type-inv,
+      head_split s t c.from_be_bytes.result some refl c.if-version-ne1.false whole (omega arith) (omega arith) c.from_be_bytes.ensures,
+      c.from_be_bytes.type_inv,
     )

@@ -5,6 +5,6 @@ use Rattle.sheet.proofs.write.put.Goals as goal
 pub returns : goal.returns
 returns c =
     record {
-      after = over_part c.args.buffer.now c.args.bytes.now c.copy-from-slice.new.self c.args.at c.copy-from-slice.ensures.after;
+      after = over_part c.args.buffer.now c.args.bytes.now c.copy_from_slice.new.self c.args.at c.copy_from_slice.ensures.after;
       behind = refl;
     }

@@ -5,8 +5,8 @@ use Rattle.sheet.proofs.write.put_records.Goals as goal
 pub loop-task-init : goal.loop-task-init
 loop-task-init c = (over_none c.args.buffer.now c.args.at, omega arith)
 
-pub put-record-behind-requires : goal.put-record-behind-requires
-put-record-behind-requires c =
+pub put_record-behind-requires : goal.put_record-behind-requires
+put_record-behind-requires c =
     omega (
       arith,
       c.loop-task.auto.buffer,
@@ -16,9 +16,9 @@ put-record-behind-requires c =
 
 pub loop-task-preserved : goal.loop-task-preserved
 loop-task-preserved c =
-    turn_puts tasks_bytes task_bytes tasks_append tasks_one c.args.buffer.now c.loop-task.buffer c.put-record-behind.new.buffer c.args.at
-    c.loop-task.behind c.put-record-behind.result c.args.tasks.now c.loop-task.task-index c.task-item.result (omega arith) c.task-item.is
-    c.requires c.loop-task.invariant.0 c.loop-task.invariant.1 c.put-record-behind.ensures.after c.put-record-behind.ensures.behind
+    turn_puts tasks_bytes task_bytes tasks_append tasks_one c.args.buffer.now c.loop-task.buffer c.put_record-behind.new.buffer c.args.at
+    c.loop-task.behind c.put_record-behind.result c.args.tasks.now c.loop-task.task-index c.task-item.result (omega arith) c.task-item.is
+    c.requires c.loop-task.invariant.0 c.loop-task.invariant.1 c.put_record-behind.ensures.after c.put_record-behind.ensures.behind
 
 pub returns : goal.returns
 returns c =

@@ -17,7 +17,7 @@ put-behind-requires c =
       arith,
       c.requires,
       c.loop-time.auto.buffer,
-      ap length c.to-be-bytes.ensures,
+      ap length c.to_be_bytes.ensures,
       turn_fits time_bytes four_bytes times_append times_one c.args.buffer.now c.args.at c.loop-time.behind ts i t (omega arith)
           (get_or_default ts i 0 t (omega arith)) c.requires c.loop-time.invariant.1,
     )
@@ -27,7 +27,7 @@ loop-time-preserved c =
     let ts = c.args.times.now in
     let i = c.loop-time.time-index in
     let t = get_or ts i 0 in
-    let bytes : c.to-be-bytes.result ≡ four_bytes t = c.to-be-bytes.ensures in
+    let bytes : c.to_be_bytes.result ≡ four_bytes t = c.to_be_bytes.ensures in
     turn_puts time_bytes four_bytes times_append times_one c.args.buffer.now c.loop-time.buffer c.put-behind.new.buffer c.args.at
     c.loop-time.behind c.put-behind.result ts i t (omega arith) (get_or_default ts i 0 t (omega arith)) c.requires c.loop-time.invariant.0 c.loop-time.invariant.1
     (c.put-behind.ensures.after ∙ ap (over c.loop-time.buffer c.loop-time.behind) bytes)

@@ -3,8 +3,8 @@ use Rattle.std.proofs.lemmas.List.{take_all}
 use Rattle.sheet.proofs.Writes.{length_more, row_few, tasks_bytes}
 use Rattle.sheet.proofs.write.records_length.Goals as goal
 
-pub overflow-add-sum-in-loop-task : goal.overflow-add-sum-in-loop-task
-overflow-add-sum-in-loop-task c =
+pub overflow_add-sum-in-loop-task : goal.overflow_add-sum-in-loop-task
+overflow_add-sum-in-loop-task c =
     record { fits = omega (arith, c.requires, c.loop-task.invariant.1, row_few c.task-item.result c.times.result.now c.times.ensures) }
 
 pub loop-task-preserved : goal.loop-task-preserved

@@ -4,8 +4,8 @@ use Rattle.report.proofs.Puts.{number_long, number_more, number_one}
 use Rattle.report.proofs.text.Text.+put_number.Goals as goal
 use Rattle.report.proofs.text.Text.+put_number.Goals.{then-n-ge10, else-n-ge10}
 
-pub put-number-requires : goal.put-number-requires
-put-number-requires t c =
+pub put_number-requires : goal.put_number-requires
+put_number-requires t c =
     let n = c.args.n in
     (omega arith, omega (arith, number_long n c.if-n-ge10.true (omega arith)))
 
@@ -14,7 +14,7 @@ put-requires t c =
     let n = c.args.n in
     elim c.if-n-ge10.branch [
       | then-n-ge10 w ↦
-          omega (arith, ap (λ s. s.count) w.self-is, w.put-number.ensures.count, number_long n w.if-n-ge10.true (omega arith))
+          omega (arith, ap (λ s. s.count) w.self-is, w.put_number.ensures.count, number_long n w.if-n-ge10.true (omega arith))
       | else-n-ge10 w ↦ omega (arith, ap (λ s. s.count) w.self-is, ap length (number_one n w.if-n-ge10.false))
     ]
 
@@ -27,9 +27,9 @@ returns t c =
           record {
             after =
                 number_more n (text_in c.args.self.now) (text_in c.if-n-ge10.self) (text_in c.put.new.self) w.if-n-ge10.true (omega arith)
-                (ap text_in w.self-is ∙ w.put-number.ensures.after) digit.after;
+                (ap text_in w.self-is ∙ w.put_number.ensures.after) digit.after;
             count =
-                omega (arith, digit.count, ap (λ s. s.count) w.self-is, w.put-number.ensures.count, number_long n w.if-n-ge10.true (omega arith));
+                omega (arith, digit.count, ap (λ s. s.count) w.self-is, w.put_number.ensures.count, number_long n w.if-n-ge10.true (omega arith));
           }
       | else-n-ge10 w ↦
           record {

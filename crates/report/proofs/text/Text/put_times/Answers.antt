@@ -13,8 +13,8 @@ loop-time-preserved c =
     let ts = c.args.times.now in
     let i = c.loop-time.time-index in (
       puts_more spaced (λ x. 32 ∷ decimal x) spaced_joins spaced_one ts i (get_or ts i 0) (text_in c.args.self.now) (text_in c.loop-time.self)
-          (text_in c.put-labelled.new.self) (omega arith) (get_or_default ts i 0 (get_or ts i 0) (omega arith)) c.loop-time.invariant.0 c.put-labelled.ensures.after,
-      omega (arith, c.loop-time.invariant.1, c.put-labelled.ensures.few),
+          (text_in c.put_labelled.new.self) (omega arith) (get_or_default ts i 0 (get_or ts i 0) (omega arith)) c.loop-time.invariant.0 c.put_labelled.ensures.after,
+      omega (arith, c.loop-time.invariant.1, c.put_labelled.ensures.few),
     )
 
 pub returns : goal.returns
