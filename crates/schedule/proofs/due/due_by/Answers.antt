@@ -6,14 +6,14 @@ use Rattle.schedule.proofs.due.due_by.Goals.{then-deadline-last, else-deadline-l
 subst2 : (P : ℕ → ℕ → Type 0) {a b m n : ℕ} → a ≡ b → m ≡ n → P a m → P b n
 subst2 P {a} {b} {m} {n} e f h = subst (λ k. P b k) f (subst (λ k. P k m) e h)
 
-pub overflow-mul-work : goal.overflow-mul-work
-overflow-mul-work c =
+pub overflow_mul-work : goal.overflow_mul-work
+overflow_mul-work c =
     let f = due_fits c.args.tasks.now c.args.times.now c.args.last c.loop-i.i c.index-tasks-i.result c.loop-i.work c.loop-i.latest c.loop-i-test.true c.requires.same c.index-tasks-i.is
     c.loop-i.invariant c.if-deadline-last.true in
     omega (arith, c.requires.fits)
 
-pub overflow-add-work-then-deadline-last : goal.overflow-add-work-then-deadline-last
-overflow-add-work-then-deadline-last c =
+pub overflow_add-work-then-deadline-last : goal.overflow_add-work-then-deadline-last
+overflow_add-work-then-deadline-last c =
     let f = due_fits c.args.tasks.now c.args.times.now c.args.last c.loop-i.i c.index-tasks-i.result c.loop-i.work c.loop-i.latest c.loop-i-test.true c.requires.same c.index-tasks-i.is
     c.loop-i.invariant c.if-deadline-last.true in
     omega (arith, c.requires.fits)

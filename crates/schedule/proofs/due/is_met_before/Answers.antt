@@ -4,21 +4,21 @@ use Rattle.schedule.proofs.Demanding.{met_down, not_met, whole_list}
 use Rattle.schedule.specs.Sums.{demand_grows}
 use Rattle.schedule.proofs.due.is_met_before.Goals as goal
 
-pub due-by-due-requires : goal.due-by-due-requires
-due-by-due-requires c =
+pub due_by-due-requires : goal.due_by-due-requires
+due_by-due-requires c =
     let up = demand_grows (whole_list c.args.tasks.now c.args.times.now) (c.loop-t.t - 1) c.args.end (omega (arith, c.loop-t.invariant.0)) in
     record { same = c.requires.same; near = omega (arith, c.loop-t.invariant.0, c.requires.near); fits = omega (arith, c.requires.fits) }
 
 pub returns-then-due : goal.returns-then-due
 returns-then-due c =
-    let d = c.due-by-due in (
+    let d = c.due_by-due in (
       λ e. absurd (false≢true e),
       λ h. absurd (not_met c.args.tasks.now c.args.times.now c.args.end d.result.latest d.result.work (omega (arith, d.ensures.within, c.loop-t.invariant.0)) d.ensures.steady c.if-due.true h),
     )
 
 pub loop-t-preserved : goal.loop-t-preserved
 loop-t-preserved c =
-    let d = c.due-by-due in (
+    let d = c.due_by-due in (
       omega (arith, d.ensures.within, c.loop-t.invariant.0, c.if-due.false),
       met_down c.args.tasks.now c.args.times.now c.args.end c.loop-t.t d.result.work d.ensures.work c.loop-t.invariant.1,
     )

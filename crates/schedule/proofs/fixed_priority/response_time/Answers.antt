@@ -20,15 +20,15 @@ pub bounds-times-place : goal.bounds-times-place
 bounds-times-place c =
     timed_here c.args.tasks.now c.args.times.now c.args.place (shaped_parts (map record_of c.args.tasks.now) c.args.times.now c.requires.shaped).0 c.requires.here
 
-pub invariant-of-job : goal.invariant-of-job
-invariant-of-job c =
+pub invariant_of-job : goal.invariant_of-job
+invariant_of-job c =
     let ts = c.args.tasks.now in
     let xs = c.args.times.now in
     let p = shaped_parts (map record_of ts) xs c.requires.shaped in
-    (nowhere_zero_at xs c.args.place p.1 (timed_here ts xs c.args.place p.0 c.requires.here), tt)
+    record { some = nowhere_zero_at xs c.args.place p.1 (timed_here ts xs c.args.place p.0 c.requires.here) }
 
-pub slice-bounds-least-solution-from-end-2 : goal.slice-bounds-least-solution-from-end-2
-slice-bounds-least-solution-from-end-2 c =
+pub slice_bounds-least_solution_from-end-2 : goal.slice_bounds-least_solution_from-end-2
+slice_bounds-least_solution_from-end-2 c =
     let lt = timed_here c.args.tasks.now c.args.times.now c.args.place (shaped_parts (map record_of c.args.tasks.now) c.args.times.now c.requires.shaped).0 c.requires.here in
     omega arith
 
@@ -40,8 +40,8 @@ part_is ts xs place t =
     ap (λ n. get_or xs place 0 + requested (timed (map record_of (take n ts)) (take n xs)) t) zero
     ∙ ap (λ hs. get_or xs place 0 + requested (timed hs (take place xs)) t) (sym (take-map record_of place ts))
 
-pub least-solution-from-requires : goal.least-solution-from-requires
-least-solution-from-requires c =
+pub least_solution_from-requires : goal.least_solution_from-requires
+least_solution_from-requires c =
     let ts = c.args.tasks.now in
     let xs = c.args.times.now in
     let p = shaped_parts (map record_of ts) xs c.requires.shaped in
@@ -60,6 +60,6 @@ returns c =
     let here : place < length rs = omega (arith, length-map ts record_of, c.requires.here) in
     let due : (get_or ts place k).deadline ≡ deadline_at rs place =
     sym (get_or-map deadline_of rs place (record_of k) 0 here ∙ ap deadline_of (get_or-map record_of ts place k (record_of k) c.requires.here)) in
-    let r = c.least-solution-from.result in
+    let r = c.least_solution_from.result in
     response_is rs xs c.requires.ascending c.requires.shaped place r here
-    (subst (λ n. Least (demand_at rs xs place) n r) due (least_same _ (demand_at rs xs place) (get_or ts place k).deadline r (part_is ts xs place) c.least-solution-from.ensures))
+    (subst (λ n. Least (demand_at rs xs place) n r) due (least_same _ (demand_at rs xs place) (get_or ts place k).deadline r (part_is ts xs place) c.least_solution_from.ensures))

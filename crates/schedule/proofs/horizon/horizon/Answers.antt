@@ -9,22 +9,22 @@ use Rattle.schedule.proofs.horizon.horizon.Goals as goal
 
 pub returns-then-load-cycle-2 : goal.returns-then-load-cycle-2
 returns-then-load-cycle-2 c =
-    let b = c.busy-end.ensures in (
+    let b = c.busy_end.ensures in (
       b.some,
       b.within,
       b.suffices (cycle_suffices (map record_of c.args.tasks.now) c.args.times.now (all_keep c.args.tasks.now) c.args.cycle c.requires.divides c.requires.some
-          (omega (arith, c.cycle-load-load.ensures.work, c.if-load-cycle.false))),
+          (omega (arith, c.cycle_load-load.ensures.work, c.if-load-cycle.false))),
     )
 
-pub overflow-add-load : goal.overflow-add-load
-overflow-add-load c =
-    let less = div-le_self c.cycle-load-load.result.early (c.args.cycle - c.cycle-load-load.result.work) in
-    record { fits = omega (arith, c.cycle-load-load.ensures.small) }
+pub overflow_add-load : goal.overflow_add-load
+overflow_add-load c =
+    let less = div-le_self c.cycle_load-load.result.early (c.args.cycle - c.cycle_load-load.result.work) in
+    record { fits = omega (arith, c.cycle_load-load.ensures.small) }
 
 pub returns : goal.returns
 returns c =
-    let b = c.busy-end-2.ensures in
-    let load = c.cycle-load-load in
+    let b = c.busy_end-2.ensures in
+    let load = c.cycle_load-load in
     let rs = map record_of c.args.tasks.now in
     let xs = c.args.times.now in
     let limit = c.min-limit.result in

@@ -7,7 +7,7 @@ pub returns : goal.returns
 returns g c =
     let xs = c.args.times.now in
     let f = g.C.Change.changed c.args.change.now in
-    let ys = c.change-all.new.times in
-    let e : ys ≡ map f xs = c.change-all.ensures ∙ ap (map f) c.copy-from-slice.ensures.after in
+    let ys = c.change_all.new.times in
+    let e : ys ≡ map f xs = c.change_all.ensures ∙ ap (map f) c.copy_from_slice.ensures.after in
     let long : length ys ≡ length xs = ap length e ∙ length-map xs f in
     record { long = front_long ys _ (length xs) 16 long refl c.requires; front = front_is ys _ (length xs) long ∙ e }

@@ -4,12 +4,12 @@ use Rattle.schedule.proofs.requests.work_requested.Goals as goal
 
 pub loop-i-preserved : goal.loop-i-preserved
 loop-i-preserved c =
-    let more = requested_more c.args.t c.args.tasks.now c.args.times.now c.loop-i.i c.index-tasks-i.result c.div-ceil.result (omega arith) (omega arith) c.div-ceil.ensures in
+    let more = requested_more c.args.t c.args.tasks.now c.args.times.now c.loop-i.i c.index-tasks-i.result c.div_ceil.result (omega arith) (omega arith) c.div_ceil.ensures in
     (omega arith, omega arith)
 
 pub returns-then-more : goal.returns-then-more
 returns-then-more c =
-    let more = requested_more c.args.t c.args.tasks.now c.args.times.now c.loop-i.i c.index-tasks-i.result c.div-ceil.result (omega arith) (omega arith) c.div-ceil.ensures in
+    let more = requested_more c.args.t c.args.tasks.now c.args.times.now c.loop-i.i c.index-tasks-i.result c.div_ceil.result (omega arith) (omega arith) c.div_ceil.ensures in
     λ less. omega arith
 
 pub returns : goal.returns

@@ -27,26 +27,26 @@ answer_is ts l xs answer lent keeps d = earliest_is l.tasks xs answer keeps.task
 cycle_some : (b : Book) (cycle : ℕ) → cycle ≡ hyperperiod (map period_of (holds b).tasks) → KeepsRules (holds b) → 1 ≤ cycle
 cycle_some b cycle e keeps = omega (arith, hyperperiod_pos (map period_of (holds b).tasks) (periods_positive (holds b).tasks keeps.tasks_keep))
 
-pub returns-then-not-is-well-shaped : goal.returns-then-not-is-well-shaped
-returns-then-not-is-well-shaped c =
+pub returns-then-not-is_well_shaped : goal.returns-then-not-is_well_shaped
+returns-then-not-is_well_shaped c =
     let ts = c.tasks-tasks.result.now in
     let l = holds c.args.book.now in
     let xs = c.args.times.now in
     let v = c.tasks-tasks.ensures in
-    let e = answer_is ts l xs false v.value v.keeps (fails_shape (map record_of ts) xs (all_keep ts) c.if-not-is-well-shaped.ensures) in
+    let e = answer_is ts l xs false v.value v.keeps (fails_shape (map record_of ts) xs (all_keep ts) c.if-not-is_well_shaped.ensures) in
     record { value = e; lawful = earliest_lawful; exact = earliest_answer l.tasks xs false v.keeps.tasks_keep e }
 
-pub is-timely-requires : goal.is-timely-requires
-is-timely-requires c = record { same = slice_shaped c.tasks-tasks.result.now c.args.times.now c.if-not-is-well-shaped.ensures }
+pub is_timely-requires : goal.is_timely-requires
+is_timely-requires c = record { same = slice_shaped c.tasks-tasks.result.now c.args.times.now c.if-not-is_well_shaped.ensures }
 
-pub returns-then-not-is-timely : goal.returns-then-not-is-timely
-returns-then-not-is-timely c =
+pub returns-then-not-is_timely : goal.returns-then-not-is_timely
+returns-then-not-is_timely c =
     let ts = c.tasks-tasks.result.now in
     let l = holds c.args.book.now in
     let xs = c.args.times.now in
     let v = c.tasks-tasks.ensures in
     let e = answer_is ts l xs false v.value v.keeps
-    (fails_late (map record_of ts) xs (all_keep ts) (λ h. false≢true (c.if-not-is-timely.ensures.1 h))) in
+    (fails_late (map record_of ts) xs (all_keep ts) (λ h. false≢true (c.if-not-is_timely.ensures.1 h))) in
     record { value = e; lawful = earliest_lawful; exact = earliest_answer l.tasks xs false v.keeps.tasks_keep e }
 
 pub horizon-requires : goal.horizon-requires
@@ -56,16 +56,16 @@ horizon-requires c =
     let v = c.tasks-tasks.ensures in
     let h = c.hyperperiod.ensures in
     record {
-      same = slice_shaped ts c.args.times.now c.if-not-is-well-shaped.ensures;
+      same = slice_shaped ts c.args.times.now c.if-not-is_well_shaped.ensures;
       few = slice_few ts l v.value v.keeps;
-      timely = c.if-not-is-timely.ensures.0 refl;
+      timely = c.if-not-is_timely.ensures.0 refl;
       within = h.bound;
       some = cycle_some c.args.book.now c.hyperperiod.result h.value v.keeps;
       divides = subst (λ us. AllDivide (map period_of us) c.hyperperiod.result) (sym v.value) h.law.0;
     }
 
-pub is-met-before-requires : goal.is-met-before-requires
-is-met-before-requires c =
+pub is_met_before-requires : goal.is_met_before-requires
+is_met_before-requires c =
     let ts = c.tasks-tasks.result.now in
     let xs = c.args.times.now in
     let l = holds c.args.book.now in
@@ -77,12 +77,12 @@ is-met-before-requires c =
     let span : c.in-Some.end + 1000000 ≤ 10001000000 = omega (arith, c.hyperperiod.ensures.bound) in
     let most : length (map record_of ts) * (c.in-Some.end + 1000000) ≤ 16 * 10001000000 = mul-le-mul count span in
     record {
-      same = slice_shaped ts xs c.if-not-is-well-shaped.ensures;
+      same = slice_shaped ts xs c.if-not-is_well_shaped.ensures;
       near = omega (arith, c.hyperperiod.ensures.bound);
       fits = omega (
         arith,
         demand_requested (timed (map record_of ts) xs) (formed (map record_of ts) xs keep) c.in-Some.end,
-        requested_fits (map record_of ts) xs keep (c.if-not-is-timely.ensures.0 refl) c.in-Some.end,
+        requested_fits (map record_of ts) xs keep (c.if-not-is_timely.ensures.0 refl) c.in-Some.end,
       );
     }
 
@@ -93,9 +93,9 @@ returns-in-Some c =
     let xs = c.args.times.now in
     let v = c.tasks-tasks.ensures in
     let b = c.in-Some.ensures in
-    let e = answer_is ts l xs c.is-met-before.result v.value v.keeps
-    (decides (map record_of ts) xs (all_keep ts) c.in-Some.end c.is-met-before.result c.if-not-is-well-shaped.ensures b.2 c.is-met-before.ensures) in
-    record { value = e; lawful = earliest_lawful; exact = earliest_answer l.tasks xs c.is-met-before.result v.keeps.tasks_keep e }
+    let e = answer_is ts l xs c.is_met_before.result v.value v.keeps
+    (decides (map record_of ts) xs (all_keep ts) c.in-Some.end c.is_met_before.result c.if-not-is_well_shaped.ensures b.2 c.is_met_before.ensures) in
+    record { value = e; lawful = earliest_lawful; exact = earliest_answer l.tasks xs c.is_met_before.result v.keeps.tasks_keep e }
 
 pub returns-in-None : goal.returns-in-None
 returns-in-None c =

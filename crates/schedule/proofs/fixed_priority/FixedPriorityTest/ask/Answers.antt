@@ -10,22 +10,22 @@ use Rattle.schedule.proofs.Responding.{not_before_next, not_before_none, respons
 use Rattle.schedule.proofs.Slices.{slice_ascends, slice_here, slice_past}
 use Rattle.schedule.proofs.fixed_priority.FixedPriorityTest.ask.Goals as goal
 
-pub response-time-requires : goal.response-time-requires
-response-time-requires c =
+pub response_time-requires : goal.response_time-requires
+response_time-requires c =
     let v = c.tasks-tasks.ensures in
     record {
       ascending = slice_ascends c.tasks-tasks.result.now (holds c.args.book.now) v.value v.keeps;
-      shaped = sym c.if-not-is-well-shaped.ensures;
+      shaped = sym c.if-not-is_well_shaped.ensures;
       here = c.loop-place-test.true;
       within = c.loop-place.invariant.1;
       later = c.loop-place.invariant.2;
     }
 
-pub returns-then-not-is-well-shaped : goal.returns-then-not-is-well-shaped
-returns-then-not-is-well-shaped c =
+pub returns-then-not-is_well_shaped : goal.returns-then-not-is_well_shaped
+returns-then-not-is_well_shaped c =
     let rs = map record_of c.tasks-tasks.result.now in
     let xs = c.args.times.now in
-    let e = sym (and_left (well_shaped rs xs) (each (λ k. is_some (response (timed rs xs) k)) (timed rs xs)) (sym c.if-not-is-well-shaped.ensures))
+    let e = sym (and_left (well_shaped rs xs) (each (λ k. is_some (response (timed rs xs) k)) (timed rs xs)) (sym c.if-not-is_well_shaped.ensures))
     ∙ ap (λ us. fixed_priority us xs) c.tasks-tasks.ensures.value in
     record { value = e; lawful = fixed_lawful; exact = fixed_answer (holds c.args.book.now).tasks xs false e }
 
@@ -37,7 +37,7 @@ returns-in-None c =
     let ts = c.tasks-tasks.result.now in
     let xs = c.args.times.now in
     let v = c.tasks-tasks.ensures in
-    let e = responds_stop (map record_of ts) xs (slice_ascends ts (holds c.args.book.now) v.value v.keeps) (sym c.if-not-is-well-shaped.ensures)
+    let e = responds_stop (map record_of ts) xs (slice_ascends ts (holds c.args.book.now) v.value v.keeps) (sym c.if-not-is_well_shaped.ensures)
     c.loop-place.place None (slice_here ts c.loop-place.place c.loop-place-test.true) c.in-None.ensures refl c.loop-place.invariant.0
     ∙ ap (λ us. fixed_priority us xs) v.value in
     record { value = e; lawful = fixed_lawful; exact = fixed_answer (holds c.args.book.now).tasks xs false e }
@@ -49,7 +49,7 @@ loop-place-preserved c =
     let xs = c.args.times.now in
     let v = c.tasks-tasks.ensures in
     let ascends = slice_ascends ts l v.value v.keeps in
-    let shaped = sym c.if-not-is-well-shaped.ensures in
+    let shaped = sym c.if-not-is_well_shaped.ensures in
     let here = slice_here ts c.loop-place.place c.loop-place-test.true in
     let keep = all_keep ts in
     let r = c.in-Some.response in (
@@ -63,7 +63,7 @@ returns c =
     let ts = c.tasks-tasks.result.now in
     let xs = c.args.times.now in
     let v = c.tasks-tasks.ensures in
-    let e = responds_all (map record_of ts) xs (slice_ascends ts (holds c.args.book.now) v.value v.keeps) (sym c.if-not-is-well-shaped.ensures)
+    let e = responds_all (map record_of ts) xs (slice_ascends ts (holds c.args.book.now) v.value v.keeps) (sym c.if-not-is_well_shaped.ensures)
     c.loop-place.place (slice_past ts c.loop-place.place c.loop-place-test.false) c.loop-place.invariant.0
     ∙ ap (λ us. fixed_priority us xs) v.value in
     record { value = e; lawful = fixed_lawful; exact = fixed_answer (holds c.args.book.now).tasks xs true e }

@@ -19,8 +19,8 @@ returns-then-place-tasks c =
     (subst (λ us. length us ≤ c.args.place) c.tasks-tasks.ensures.value (slice_past c.tasks-tasks.result.now c.args.place c.if-place-tasks.true)) in
     record { value = e; tells = told_answer rs c.args.times.now c.args.place None e; least = told_least rs c.args.times.now c.args.place None e }
 
-pub overflow-cast-result : goal.overflow-cast-result
-overflow-cast-result c =
+pub overflow_cast-result : goal.overflow_cast-result
+overflow_cast-result c =
     let rs = (holds c.args.book.now).tasks in
     let xs = c.args.times.now in
     let e = told_passed rs xs c.args.place (Some c.in-Some.response) c.if-not-ask.ensures.value

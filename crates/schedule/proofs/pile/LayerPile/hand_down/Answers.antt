@@ -9,7 +9,7 @@ returns g c =
     let change = g.C.Change.changed layer.change in
     let some = stays_some change (g.met.C.Change.keeps_order layer.change) (g.met.C.Change.never_shortens layer.change) in
     record {
-      value = c.hand-down.ensures.value ∙ ap (handed (g.P.Pile.layers layer.below)) c.change-all.ensures;
-      passes = passes_handed_more change some (g.P.Pile.layers layer.below) (g.P.Test.passes layer.below) c.hand-down.ensures.passes;
-      tells = tells_handed_more change some (g.P.Pile.layers layer.below) (g.P.TimingTest.told layer.below) c.hand-down.ensures.tells;
+      value = c.hand_down.ensures.value ∙ ap (handed (g.P.Pile.layers layer.below)) c.change_all.ensures;
+      passes = passes_handed_more change some (g.P.Pile.layers layer.below) (g.P.Test.passes layer.below) c.hand_down.ensures.passes;
+      tells = tells_handed_more change some (g.P.Pile.layers layer.below) (g.P.TimingTest.told layer.below) c.hand_down.ensures.tells;
     }
