@@ -1,6 +1,7 @@
 // Bench: asks the schedulability tests about lists of times, all of them in every round, and prints how many questions that were
 // and how many were answered by yes. It looks at no clock: tools/bench/run, whose head lists the lines of the input, times it.
 #![tactic(auto)]
+
 mod questions;
 
 use crate::questions::Questions;

@@ -25,7 +25,7 @@ impl Questions {
     pub(crate) fn enter(&mut self, number: u8, period: u32, deadline: u32) -> anyhow::Result<()> {
         match self.book.enter(number, period, deadline, &[1]) {
             Ok(()) => Ok(()),
-            Err(refusal) => Err(refusal.word().into()),
+            Err(refusal) => Err(anyhow!("{}", refusal.word())),
         }
     }
 

@@ -1,6 +1,7 @@
 // Trial: carries out a script of calls on one book and prints an answer line for each. The head of tools/oracle.py, a model of the
 // book that the answers are compared with, lists the calls. A line that is none of them is answered by `?`.
 #![tactic(auto)]
+
 mod answer;
 mod call;
 mod parse;

@@ -43,9 +43,9 @@ pub(crate) fn perform(heap: Global, book: &mut Book, call: &Call) -> Result<Answ
 }
 
 /// The answer to an edit, with the book that it left.
-fn edited(res: Result<(), Refusal>, book: &Book) -> Answer {
+fn edited(answer: Result<(), Refusal>, book: &Book) -> Answer {
     Answer::Edit {
-        result: res,
+        result: answer,
         book: *book,
     }
 }

@@ -35,16 +35,16 @@ fn refused<W: fmt::Write>(f: &mut fmt::Formatter<W>, refusal: Refusal) -> fmt::R
 }
 
 /// The result of a call that gives nothing.
-fn outcome<W: fmt::Write>(f: &mut fmt::Formatter<W>, res: Result<(), Refusal>) -> fmt::Result {
-    match res {
+fn outcome<W: fmt::Write>(f: &mut fmt::Formatter<W>, answer: Result<(), Refusal>) -> fmt::Result {
+    match answer {
         Ok(()) => f.write_str("ok"),
         Err(refusal) => refused(f, refusal),
     }
 }
 
 /// The result of a load; a fault has its place on the sheet.
-fn loaded<W: fmt::Write>(f: &mut fmt::Formatter<W>, res: Result<(), Fault>) -> fmt::Result {
-    match res {
+fn loaded<W: fmt::Write>(f: &mut fmt::Formatter<W>, answer: Result<(), Fault>) -> fmt::Result {
+    match answer {
         Ok(()) => f.write_str("ok"),
         Err(Fault { refusal, place }) => {
             refused(f, refusal)?;
@@ -54,8 +54,11 @@ fn loaded<W: fmt::Write>(f: &mut fmt::Formatter<W>, res: Result<(), Fault>) -> f
 }
 
 /// The result of a write.
-fn written<W: fmt::Write>(f: &mut fmt::Formatter<W>, res: Result<usize, Refusal>) -> fmt::Result {
-    match res {
+fn written<W: fmt::Write>(
+    f: &mut fmt::Formatter<W>,
+    answer: Result<usize, Refusal>,
+) -> fmt::Result {
+    match answer {
         Ok(length) => write!(f, "wrote {length}"),
         Err(refusal) => refused(f, refusal),
     }
@@ -106,8 +109,8 @@ fn classes<W: fmt::Write>(f: &mut fmt::Formatter<W>, answers: &ListAnswers) -> f
 }
 
 /// Whether times pass a test.
-fn asked<W: fmt::Write>(f: &mut fmt::Formatter<W>, res: Result<bool, Refusal>) -> fmt::Result {
-    match res {
+fn asked<W: fmt::Write>(f: &mut fmt::Formatter<W>, answer: Result<bool, Refusal>) -> fmt::Result {
+    match answer {
         Ok(true) => f.write_str("yes"),
         Ok(false) => f.write_str("no"),
         Err(refusal) => refused(f, refusal),
@@ -117,9 +120,9 @@ fn asked<W: fmt::Write>(f: &mut fmt::Formatter<W>, res: Result<bool, Refusal>) -
 /// The time that a test tells of a task, if any.
 fn told<W: fmt::Write>(
     f: &mut fmt::Formatter<W>,
-    res: Result<Option<u32>, Refusal>,
+    answer: Result<Option<u32>, Refusal>,
 ) -> fmt::Result {
-    match res {
+    match answer {
         Ok(Some(time)) => write!(f, "told {time}"),
         Ok(None) => f.write_str("none"),
         Err(refusal) => refused(f, refusal),
@@ -129,9 +132,9 @@ fn told<W: fmt::Write>(
 /// The numbers that a call put into a buffer, each behind a space, or its refusal.
 fn numbers<W: fmt::Write, T: fmt::Display>(
     f: &mut fmt::Formatter<W>,
-    res: &Result<Front<T>, Refusal>,
+    answer: &Result<Front<T>, Refusal>,
 ) -> fmt::Result {
-    match res {
+    match answer {
         Ok(front) => {
             for number in front.buffer.iter().take(front.count) {
                 write!(f, " {number}")?;
