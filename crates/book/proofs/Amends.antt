@@ -1,15 +1,13 @@
 -- What a table answers where one task is amended or withdrawn.
-use Rattle.std.proofs.Common.{◌≡◌, ℕ, zero, suc, ◌+◌, ◌-◌, ◌<◌, ◌≤◌, Bool, true, false, cond, not, eqb, List, [], ◌∷◌, map, length, get_or, take, drop, set, Ok, Err, Result, sym, refl, ap, ◌∙◌, subst, arith}
+use Rattle.std.proofs.Common.{◌≡◌, ℕ, zero, suc, ◌<◌, List, [], ◌∷◌, map, length, get_or, take, set, Ok, Err, Result, sym, refl, ap, ◌∙◌, subst, arith}
 use Rattle.std.specs.List.{remove}
-use Rattle.std.proofs.lemmas.List.{get_or-take, map-set, set-get_or, take-map, drop-set-lt}
+use Rattle.std.proofs.lemmas.List.{get_or-take, map-set, set-get_or, take-map}
 use Rattle.std.proofs.lemmas.Bool.{eq-eqb, ne_eqb}
-use Rattle.book.specs.Amending.{amend_checks, amend_tasks, amended, row_of, with_time, withdraw_tasks, withdrawn}
+use Rattle.book.specs.Amending.{amend_checks, amend_tasks, amended, row_of, with_time, withdraw_tasks}
 use Rattle.book.specs.Books.{records_in}
 use Rattle.book.specs.Checks.{Did, judged}
-use Rattle.book.specs.Entering.{taken}
-use Rattle.book.specs.Held.{Kept, fields, number_in, numbers, period_in, periods, record_of, records}
+use Rattle.book.specs.Held.{number_in, numbers, period_in, periods, record_of, records}
 use Rattle.book.specs.Hyperperiod.{hyperperiod}
-use Rattle.book.specs.Ledger.{TaskRecord}
 use Rattle.book.specs.Places.{Found}
 use Rattle.book.specs.Rules.{Ascending}
 use Rattle.book.specs.declared.refusal.Refusal.{Refusal}

@@ -1,5 +1,5 @@
 -- Answers that differ only in what is done where no check applies.
-use Rattle.std.proofs.Common.{◌≡◌, ℕ, Bool, true, false, cond, List, [], ◌∷◌, ◌++◌, Ok, Err, Result, sym, refl, ap, ◌∙◌, subst, arith}
+use Rattle.std.proofs.Common.{◌≡◌, ℕ, Bool, true, false, cond, List, [], ◌∷◌, ◌++◌, Ok, Err, Result, refl, ap, ◌∙◌, arith}
 use Rattle.book.specs.Checks.{Check, judged}
 use Rattle.book.specs.declared.refusal.Refusal.{Refusal}
 

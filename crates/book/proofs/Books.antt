@@ -1,5 +1,5 @@
 -- From what the table answers to what the book answers.
-use Rattle.std.proofs.Common.{◌≡◌, ℕ, leb, List, [], ◌∷◌, ◌++◌, Ok, Err, Result, sym, refl, ap, ◌∙◌, subst}
+use Rattle.std.proofs.Common.{◌≡◌, ℕ, leb, List, [], ◌∷◌, ◌++◌, Ok, Err, Result, sym, ap, ◌∙◌, subst}
 use Rattle.book.specs.Amending.{amend_tasks, withdraw_tasks}
 use Rattle.book.specs.Books.{amend_answer, append_answer, enter_answer, holds, records_in, with_tasks, withdraw_answer}
 use Rattle.book.specs.Checks.{Check, Did, Made, judged}

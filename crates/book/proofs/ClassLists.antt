@@ -1,8 +1,8 @@
 -- The loops over a class list, one place at a time.
-use Rattle.std.proofs.Common.{◌≡◌, ℕ, zero, suc, ◌+◌, ◌-◌, ◌*◌, ◌/◌, ◌<◌, ◌≤◌, Bool, true, false, cond, not, ◌&&◌, ltb, List, [], ◌∷◌, ◌++◌, map, length, get_or, take, drop, set, sym, refl, ap, ◌∙◌, subst, div-le_self, arith}
+use Rattle.std.proofs.Common.{◌≡◌, ℕ, zero, suc, ◌+◌, ◌*◌, ◌/◌, ◌<◌, ◌≤◌, Bool, true, false, ◌&&◌, ltb, List, [], ◌∷◌, ◌++◌, map, length, get_or, take, drop, set, sym, refl, ap, ◌∙◌, div-le_self, arith}
 use Rattle.std.proofs.lemmas.Nat.{mul-le}
-use Rattle.std.proofs.lemmas.List.{drop_all, drop_more, get_or-map, length-map, length-take-le, set_at, take_all, take_more, append_assoc}
-use Rattle.std.proofs.lemmas.Bool.{and_left, and_parts, le-ltb, lt-ltb, ltb-true}
+use Rattle.std.proofs.lemmas.List.{drop_all, drop_more, get_or-map, length-take-le, set_at, take_all, take_more, append_assoc}
+use Rattle.std.proofs.lemmas.Bool.{and_left, and_parts, le-ltb, lt-ltb}
 use Rattle.book.specs.Classes.{chosen_times, class_size, names, sizes, time_at, total, work_in}
 use Rattle.book.specs.Held.{record_of, times_in}
 use Rattle.book.specs.Ledger.{TaskRecord}

@@ -1,9 +1,9 @@
 -- Every book keeps the rules: what its ghost fields say of the slots, said of the ledger.
-use Rattle.std.proofs.Common.{◌≡◌, ℕ, ◌<◌, ◌≤◌, List, [], ◌∷◌, map, length, get_or, take, sym, refl, ap, ◌∙◌, subst, arith}
+use Rattle.std.proofs.Common.{◌≡◌, ℕ, ◌<◌, ◌≤◌, List, [], ◌∷◌, map, length, get_or, sym, refl, ap, ◌∙◌, subst, arith}
 use Rattle.std.proofs.lemmas.List.{get_or_past, get_or-take, length-take-le}
 use Rattle.book.specs.Books.{holds, records_in}
 use Rattle.book.specs.Classes.{time_at}
-use Rattle.book.specs.Held.{number_in, numbers, period_in, periods, record_of, times_in}
+use Rattle.book.specs.Held.{number_in, periods, record_of, times_in}
 use Rattle.book.specs.Hyperperiod.{IsHyperperiod, hyperperiod}
 use Rattle.book.specs.Keeping.{AllKeep, KeepsRules, TaskKeeps}
 use Rattle.book.specs.Ledger.{number_of, period_of}

@@ -1,14 +1,13 @@
 -- What the calls on a class list answer, from what their loops gave.
-use Rattle.std.proofs.Common.{◌≡◌, ℕ, suc, ◌+◌, ◌-◌, ◌<◌, ◌≤◌, Bool, true, false, cond, not, ltb, List, [], ◌∷◌, ◌++◌, map, length, take, drop, Ok, Err, Result, sym, refl, ap, ◌∙◌, subst, inl, inr, arith}
+use Rattle.std.proofs.Common.{◌≡◌, ℕ, suc, ◌<◌, ◌≤◌, true, ltb, List, [], ◌∷◌, ◌++◌, map, length, take, drop, Ok, Err, sym, refl, ap, ◌∙◌, inl, inr, arith}
 use Rattle.std.proofs.lemmas.List.{drop_at, length-append, length-drop, length-map, take_at}
-use Rattle.std.proofs.lemmas.Bool.{and_parts, cases_Bool, le-ltb, lt-ltb, not_from_true}
-use Rattle.book.specs.Books.{holds, records_in}
+use Rattle.std.proofs.lemmas.Bool.{and_parts, cases_Bool, le-ltb, lt-ltb}
+use Rattle.book.specs.Books.{records_in}
 use Rattle.book.specs.Checks.{Put, judged, short_check}
 use Rattle.book.specs.Classes.{chosen_times, list_check, names}
 use Rattle.book.specs.Held.{record_of}
 use Rattle.book.specs.Ledger.{TaskRecord}
 use Rattle.book.specs.declared.book.Book.{Book}
-use Rattle.book.specs.declared.refusal.Refusal.{Refusal}
 use Rattle.book.specs.declared.refusal.Refusal.TheVariants as r
 use Rattle.book.specs.declared.task.Task.{Task}
 use Rattle.book.proofs.ClassLists.{names_long}

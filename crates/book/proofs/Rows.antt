@@ -1,7 +1,7 @@
 -- The checks on a row, read place by place, and a row with one time changed.
-use Rattle.std.proofs.Common.{◌≡◌, ℕ, zero, suc, ◌+◌, ◌-◌, ◌<◌, ◌≤◌, Bool, true, false, cond, ◌||◌, eqb, ltb, leb, List, [], ◌∷◌, ◌++◌, length, get_or, take, drop, set, replicate, Ok, Err, Result, sym, refl, ap, ◌∙◌, subst, inl, inr, add-one, arith}
+use Rattle.std.proofs.Common.{◌≡◌, ℕ, zero, suc, ◌+◌, ◌-◌, ◌<◌, ◌≤◌, Bool, true, false, cond, ltb, List, [], ◌∷◌, ◌++◌, length, get_or, take, drop, set, replicate, Ok, Err, sym, refl, ap, ◌∙◌, subst, inl, inr, add-one, arith}
 use Rattle.std.proofs.lemmas.List.{get_or-set_same, get_or-set_other, get_or_append_left, get_or-take, take_at, length-append, length-drop, length-take-le, length-set, drop_at, drop-replicate}
-use Rattle.std.proofs.lemmas.Bool.{lt-ltb, le-ltb, le-leb, lt-leb, or_left, or_right, or_from, or_parts, ltb-false, cases_eq}
+use Rattle.std.proofs.lemmas.Bool.{lt-ltb, le-ltb, lt-leb, or_left, or_right, or_from, or_parts, ltb-false, cases_eq}
 use Rattle.book.specs.Rules.{Within, Falling}
 use Rattle.book.specs.Checks.{outside, judged}
 use Rattle.book.specs.Entering.{any_outside, rises, rises_after, row_checks}

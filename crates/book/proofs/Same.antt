@@ -1,5 +1,5 @@
 -- Two values of a struct with ghost fields are equal where their other fields are.
-use Rattle.std.proofs.Common.{◌≡◌, ℕ, sym, refl, ap, ◌∙◌, subst}
+use Rattle.std.proofs.Common.{◌≡◌}
 use denote.Struct.Record.{values_one}
 use Rattle.book.specs.declared.book.Book.{Book}
 use Rattle.book.specs.declared.row.Row.{Row}

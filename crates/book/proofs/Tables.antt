@@ -1,16 +1,16 @@
 -- What a table answers where a task is put in, from what its slots then hold.
-use Rattle.std.proofs.Common.{◌≡◌, ℕ, zero, suc, ◌+◌, ◌-◌, ◌<◌, ◌≤◌, Bool, true, false, cond, eqb, ltb, leb, List, [], ◌∷◌, ◌++◌, map, length, get_or, take, drop, Ok, Err, Result, sym, refl, ap, ◌∙◌, subst, append_assoc, arith}
+use Rattle.std.proofs.Common.{◌≡◌, ℕ, ◌<◌, ◌≤◌, List, [], ◌∷◌, ◌++◌, map, length, take, Ok, Err, Result, sym, refl, ap, ◌∙◌, subst, arith}
 use Rattle.std.specs.List.{insert, remove}
-use Rattle.std.proofs.lemmas.List.{length-map, take_all, drop_all, append-nil}
+use Rattle.std.proofs.lemmas.List.{take_all, drop_all}
 use Rattle.std.proofs.lemmas.Bool.{lt-leb, le-leb, lt-ltb, le-ltb}
 use Rattle.book.specs.Books.{records_in}
-use Rattle.book.specs.Checks.{Check, Did, judged}
+use Rattle.book.specs.Checks.{Did, judged}
 use Rattle.book.specs.Divisors.{IsLcm}
-use Rattle.book.specs.Entering.{room_checks, enter_among, append_last, entered, taken, last_number}
-use Rattle.book.specs.Held.{number_in, numbers, period_in, periods, record_of, records}
+use Rattle.book.specs.Entering.{room_checks, enter_among, append_last, last_number}
+use Rattle.book.specs.Held.{number_in, numbers, period_in, record_of}
 use Rattle.book.specs.Hyperperiod.{hyperperiod}
-use Rattle.book.specs.Ledger.{TaskRecord, period_of}
-use Rattle.book.specs.Places.{Between, Found, number_at}
+use Rattle.book.specs.Ledger.{period_of}
+use Rattle.book.specs.Places.{Between, Found}
 use Rattle.book.specs.Rules.{Ascending}
 use Rattle.book.specs.declared.refusal.Refusal.{Refusal}
 use Rattle.book.specs.declared.refusal.Refusal.TheVariants as r
@@ -19,7 +19,7 @@ use Rattle.book.specs.declared.task.Task.{Task}
 use Rattle.book.proofs.Moves.{map_inserted, map_removed, ascending_inserted, ascending_removed}
 use Rattle.book.proofs.Multiples.{hyperperiod_one_more}
 use Rattle.book.proofs.Periods.{period_inserted, positive}
-use Rattle.book.proofs.Places.{numbers_long, records_long, long, taken_there, taken_nowhere, entered_between}
+use Rattle.book.proofs.Places.{numbers_long, records_long, taken_there, taken_nowhere, entered_between}
 
 -- the periods of the records are those of the tasks
 pub record_periods : (ts : List Task) → map period_of (map record_of ts) ≡ map period_in ts

@@ -1,5 +1,5 @@
 -- A task whose row is amended.
-use Rattle.std.proofs.Common.{◌≡◌, ℕ, ◌≤◌, List, [], set, Ok, Err, Result, sym, refl, ap, ◌∙◌, subst}
+use Rattle.std.proofs.Common.{◌≡◌, ℕ, ◌≤◌, List, [], set, Ok, Err, Result, sym, ap, ◌∙◌}
 use Rattle.book.specs.Amending.{amend_checks, with_time}
 use Rattle.book.specs.Checks.{Did, judged}
 use Rattle.book.specs.Entering.{row_checks, task_checks}

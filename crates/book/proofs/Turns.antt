@@ -1,5 +1,5 @@
 -- A turn of a part of a list puts an element in, or takes one out.
-use Rattle.std.proofs.Common.{◌≡◌, ℕ, zero, suc, ◌+◌, ◌-◌, ◌<◌, ◌≤◌, List, [], ◌∷◌, ◌++◌, map, length, get_or, take, drop, set, sym, refl, ap, ◌∙◌, subst, add-one, arith}
+use Rattle.std.proofs.Common.{◌≡◌, ℕ, ◌+◌, ◌-◌, ◌<◌, ◌≤◌, List, [], ◌∷◌, ◌++◌, map, length, take, drop, set, sym, ap, ◌∙◌, add-one, arith}
 use borrow.Rule.Slice.PartMut.{put_mid}
 use Rattle.std.specs.List.{between, insert, remove}
 use Rattle.std.proofs.lemmas.List.{append_assoc, take_more_set, drop-append-le, length_push, drop_at, take_at, take-set-le, take-take, length-take-le, length-drop, length-append, drop-drop, length-set, drop-set-lt, take-set, drop-set}

@@ -1,5 +1,5 @@
 -- Amending one time of one task, and withdrawing a task.
-use Rattle.std.specs.Prelude.{ℕ, Bool, cond, not, List, [], ◌∷◌, length, Result, ◌==◌, nat_le, slice_set}
+use Rattle.std.specs.Prelude.{ℕ, cond, not, List, [], ◌∷◌, length, Result, ◌==◌, nat_le, slice_set}
 use Rattle.book.specs.Checks.{Check, judged, outside}
 use Rattle.book.specs.Entering.{rises, taken}
 use Rattle.book.specs.Ledger.{TaskRecord, task_record}

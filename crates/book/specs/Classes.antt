@@ -1,8 +1,8 @@
 -- Partition classes, and what a class list asks of a book.
-use Rattle.std.specs.Prelude.{ℕ, ◌+◌, ◌*◌, ◌/◌, Bool, true, false, cond, not, ◌&&◌, List, [], ◌∷◌, map, length, Some, None, Option, nat_lt, slice_index}
+use Rattle.std.specs.Prelude.{ℕ, ◌+◌, ◌*◌, ◌/◌, Bool, true, false, not, ◌&&◌, List, [], ◌∷◌, map, length, nat_lt, slice_index}
 use Rattle.book.specs.Checks.{Check}
 use Rattle.book.specs.Hyperperiod.{hyperperiod}
-use Rattle.book.specs.Ledger.{Ledger, TaskRecord, period_of}
+use Rattle.book.specs.Ledger.{TaskRecord, period_of}
 use Rattle.book.specs.declared.refusal.Refusal.TheVariants as r
 
 -- the sizes of a partition of class 0 to 10, in sets

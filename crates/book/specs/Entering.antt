@@ -1,8 +1,8 @@
 -- Entering a task: the checks in their order, and where the task goes.
-use Rattle.std.specs.Prelude.{ℕ, Bool, true, false, cond, ◌||◌, List, [], ◌∷◌, ◌++◌, map, length, Result, ◌==◌, nat_le, nat_lt}
+use Rattle.std.specs.Prelude.{ℕ, Bool, false, cond, ◌||◌, List, [], ◌∷◌, ◌++◌, map, length, Result, ◌==◌, nat_le, nat_lt}
 use Rattle.book.specs.Checks.{Check, judged, outside}
 use Rattle.book.specs.Hyperperiod.{hyperperiod}
-use Rattle.book.specs.Ledger.{Ledger, TaskRecord, period_of}
+use Rattle.book.specs.Ledger.{TaskRecord, period_of}
 use Rattle.book.specs.declared.refusal.Refusal.{Refusal}
 use Rattle.book.specs.declared.refusal.Refusal.TheVariants as r
 

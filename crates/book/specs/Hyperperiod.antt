@@ -1,5 +1,5 @@
 -- The hyperperiod of a list of periods: their least common multiple, 1 where there is none.
-use Rattle.std.specs.Prelude.{ℕ, zero, suc, ◌+◌, ◌*◌, ◌%◌, ◌≤◌, Bool, true, cond, ◌&&◌, List, [], ◌∷◌, ◌==◌}
+use Rattle.std.specs.Prelude.{ℕ, zero, suc, ◌*◌, ◌%◌, Bool, true, cond, ◌&&◌, List, [], ◌∷◌, ◌==◌}
 use Rattle.std.specs.Int.{◌∣◌}
 
 -- m is a multiple of every period

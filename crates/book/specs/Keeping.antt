@@ -1,5 +1,5 @@
 -- The rules that every book keeps at every moment, read on its ledger.
-use Rattle.std.specs.Prelude.{ℕ, ◌≤◌, List, [], ◌∷◌, map, length}
+use Rattle.std.specs.Prelude.{◌≤◌, List, [], ◌∷◌, map, length}
 use Rattle.book.specs.Hyperperiod.{hyperperiod}
 use Rattle.book.specs.Ledger.{Ledger, TaskRecord, number_of, period_of}
 use Rattle.book.specs.Rules.{Ascending, Falling, Within}

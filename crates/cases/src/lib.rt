@@ -1,5 +1,6 @@
 // Cases from the rules, run on the book, the sheet and the tests. Their expected values are worked out by hand from the rules.
 #![tactic(auto)]
+
 #[cfg(test)]
 mod amending;
 #[cfg(test)]

@@ -1,5 +1,5 @@
 -- The loop that sums the work of a cycle, one task at a time.
-use Rattle.std.proofs.Common.{◌≡◌, ℕ, ◌+◌, ◌-◌, ◌*◌, ◌/◌, ◌<◌, ◌≤◌, List, [], ◌∷◌, map, length, get_or, drop, ap, mul-le-mul, arith}
+use Rattle.std.proofs.Common.{◌≡◌, ℕ, ◌+◌, ◌-◌, ◌*◌, ◌/◌, ◌<◌, ◌≤◌, List, map, length, get_or, drop, ap, mul-le-mul, arith}
 use Rattle.std.proofs.lemmas.List.{drop_all}
 use Rattle.book.proofs.ClassLists.{both_more}
 use Rattle.book.specs.Classes.{work_in}

@@ -5,7 +5,7 @@ use Rattle.std.proofs.lemmas.Bool.{cases_lt}
 use Rattle.book.specs.Held.{record_of}
 use Rattle.book.specs.declared.task.Task.{Task}
 use Rattle.schedule.specs.Counts.{releases_up}
-use Rattle.schedule.specs.Demands.{releases, requested}
+use Rattle.schedule.specs.Demands.{requested}
 use Rattle.schedule.specs.Timed.{timed}
 
 abbrev pub requested_left : ℕ → List Task → List ℕ → ℕ

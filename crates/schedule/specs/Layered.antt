@@ -1,15 +1,14 @@
 -- Layers: each keeps the laws of the test below, tells times as that one does, and joins a pile.
-use Rattle.std.specs.Prelude.{◌≡◌, ℕ, zero, suc, ◌+◌, ◌*◌, ◌/◌, ◌<◌, ◌≤◌, Bool, true, false, cond, ◌&&◌, List, [], ◌∷◌, map, length, is_some, None, Option, ◌==◌, nat_lt, slice_index, refl}
+use Rattle.std.specs.Prelude.{◌≡◌, ℕ, ◌+◌, ◌*◌, ◌/◌, ◌<◌, ◌≤◌, Bool, true, false, cond, ◌&&◌, List, [], ◌∷◌, map, length, None, Option, ◌==◌, nat_lt, slice_index, refl}
 use Rattle.std.proofs.Common.{sym, ap, ◌∙◌, ⊎_elim, mul-le-mul, arith}
 use Rattle.std.proofs.lemmas.Nat.{le-div, div-add-mod'}
 use Rattle.std.proofs.lemmas.List.{get_or-map, length-map}
 use Rattle.std.proofs.lemmas.Bool.{and_parts, and_from, and_left, and_right, cases_lt, eq-eqb, lt-ltb, ltb-true, false≢true}
-use Rattle.book.specs.Keeping.{AllKeep}
 use Rattle.book.specs.Ledger.{Ledger, TaskRecord}
-use Rattle.schedule.specs.FixedPriority.{response, each, fixed_priority, fixed_priority_told}
+use Rattle.schedule.specs.FixedPriority.{fixed_priority, fixed_priority_told}
 use Rattle.schedule.specs.Laws.{Shorter, Lawful, Tells}
 use Rattle.schedule.specs.Layers.{charged, widened, layered, layered_told, handed, PassesHanded, TellsHanded}
-use Rattle.schedule.specs.Timed.{timed, nowhere_zero, well_shaped, deadline_at}
+use Rattle.schedule.specs.Timed.{nowhere_zero, well_shaped, deadline_at}
 use Rattle.schedule.specs.Shapes.{deadlines_short, shaped_parts, shorter_shaped}
 
 -- where a shape is asked for first, what is told stays true

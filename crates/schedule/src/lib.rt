@@ -1,5 +1,6 @@
 // What decides whether execution times are in time: two schedulability tests, and layers over them.
 #![tactic(auto)]
+
 pub mod any_change;
 pub mod any_change_laws;
 pub mod busy_period;

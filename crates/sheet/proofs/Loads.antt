@@ -1,5 +1,5 @@
 -- What is written loads, and nothing else does.
-use Rattle.std.proofs.Common.{◌≡◌, ℕ, List, Ok, Err, Result, sym, ap, ◌∙◌, arith}
+use Rattle.std.proofs.Common.{◌≡◌, ℕ, List, Ok, Err, ap, ◌∙◌, arith}
 use Rattle.book.specs.Books.{holds}
 use Rattle.book.specs.declared.book.Book.{Book}
 use Rattle.book.proofs.Injective.{held_same}

@@ -1,9 +1,8 @@
 -- What each reader takes off the front of the bytes: a value and the bytes behind it, or a fault.
-use Rattle.std.specs.Prelude.{◌≡◌, ℕ, ◌+◌, ◌*◌, ◌<◌, ◌≤◌, false, List, [], ◌∷◌, ◌++◌, length, take, drop, Ok, Err, Result, nat_lt, slice_index}
+use Rattle.std.specs.Prelude.{◌≡◌, ℕ, ◌+◌, ◌<◌, ◌≤◌, false, List, [], ◌∷◌, ◌++◌, length, take, drop, Ok, Err, Result, nat_lt, slice_index}
 use Rattle.std.specs.Borrow.{Bor}
 use Rattle.book.specs.Books.{holds}
 use Rattle.book.specs.Checks.{Check, judged}
-use Rattle.book.specs.Ledger.{Ledger, TaskRecord, task_record}
 use Rattle.book.specs.declared.book.Book.{Book}
 use Rattle.book.specs.declared.refusal.Refusal.{Refusal}
 use Rattle.book.specs.declared.refusal.Refusal.TheVariants as r

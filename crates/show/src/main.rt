@@ -1,5 +1,6 @@
 // The program `show`: reads a sheet from standard input and prints its book for a person, or why it is refused.
 #![tactic(auto)]
+
 ghost use Rattle.std.specs.Prelude.{◌≤◌, length, IfOk};
 
 use report::describe::describe;

@@ -1,4 +1,4 @@
-use Rattle.std.proofs.Common.{◌≡◌, map, sym, refl, ◌∙◌, arith}
+use Rattle.std.proofs.Common.{map, sym, refl, ◌∙◌, arith}
 use Rattle.std.proofs.lemmas.List.{length-map}
 use Rattle.book.specs.Held.{record_of}
 use Rattle.book.proofs.ClassLists.{names_done, names_not, names_step, names_stop}

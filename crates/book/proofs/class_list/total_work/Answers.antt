@@ -1,4 +1,4 @@
-use Rattle.std.proofs.Common.{◌≡◌, ◌+◌, ◌*◌, ◌/◌, ◌≤◌, drop, sym, ◌∙◌, arith}
+use Rattle.std.proofs.Common.{◌≡◌, drop, arith}
 use Rattle.std.proofs.lemmas.List.{drop_all}
 use Rattle.book.proofs.ClassLists.{work_fits, work_left, work_more}
 use Rattle.book.proofs.class_list.total_work.Goals as goal

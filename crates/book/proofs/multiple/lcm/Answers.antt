@@ -1,4 +1,4 @@
-use Rattle.std.proofs.Common.{◌*◌, ◌/◌, ◌≤◌, div-le_self, arith}
+use Rattle.std.proofs.Common.{◌/◌, ◌≤◌, div-le_self, arith}
 use Rattle.std.proofs.lemmas.Nat.{mul-le}
 use Rattle.book.proofs.Multiples.{gcd_pos, lcm_is}
 use Rattle.book.proofs.multiple.lcm.Goals as goal

@@ -1,4 +1,4 @@
-use Rattle.std.proofs.Common.{length, get_or, sym, arith, below_more}
+use Rattle.std.proofs.Common.{get_or, sym, arith, below_more}
 use Rattle.book.proofs.Rows.{any_outside_at, within_not, outside_low, outside_high}
 use Rattle.book.proofs.row_edits.any_outside.Goals as goal
 use Rattle.book.proofs.row_edits.any_outside.Goals.{then-time-lt1-via-then-time-lt1, then-time-lt1-via-else-time-lt1+then-time-gt-LONGEST_TIME}

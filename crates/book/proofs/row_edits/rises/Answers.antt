@@ -1,5 +1,4 @@
-use Rattle.std.proofs.Common.{◌≡◌, ◌+◌, ◌-◌, ◌<◌, ◌≤◌, length, get_or, sym, subst, inl, inr, arith}
-use Rattle.std.proofs.lemmas.Bool.{cases_lt}
+use Rattle.std.proofs.Common.{sym, arith}
 use Rattle.book.proofs.Rows.{falling_more, falling_not, rises_before}
 use Rattle.book.proofs.row_edits.rises.Goals as goal
 

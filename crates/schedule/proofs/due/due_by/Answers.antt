@@ -1,4 +1,4 @@
-use Rattle.std.proofs.Common.{◌≡◌, ℕ, ◌+◌, ◌<◌, ◌≤◌, sym, subst, arith}
+use Rattle.std.proofs.Common.{◌≡◌, ℕ, ◌+◌, sym, subst, arith}
 use Rattle.schedule.proofs.Demanding.{DueSoFar, due_all, due_fits, due_off, due_on}
 use Rattle.schedule.proofs.due.due_by.Goals as goal
 use Rattle.schedule.proofs.due.due_by.Goals.{then-deadline-last, else-deadline-last}

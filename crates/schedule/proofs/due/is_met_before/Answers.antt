@@ -1,4 +1,4 @@
-use Rattle.std.proofs.Common.{◌-◌, ◌≤◌, arith}
+use Rattle.std.proofs.Common.{◌-◌, arith}
 use Rattle.std.proofs.lemmas.Bool.{false≢true}
 use Rattle.schedule.proofs.Demanding.{met_down, not_met, whole_list}
 use Rattle.schedule.specs.Sums.{demand_grows}

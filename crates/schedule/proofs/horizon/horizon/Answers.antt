@@ -1,4 +1,4 @@
-use Rattle.std.proofs.Common.{◌≡◌, ◌+◌, ◌-◌, ◌/◌, ◌<◌, ◌≤◌, min, map, ap, ◌∙◌, div-le_self, arith}
+use Rattle.std.proofs.Common.{◌≡◌, ◌+◌, ◌-◌, ◌/◌, min, map, ap, ◌∙◌, div-le_self, arith}
 use Rattle.book.proofs.Keeps.{all_keep}
 use Rattle.book.specs.Classes.{work_in}
 use Rattle.book.specs.Held.{record_of}

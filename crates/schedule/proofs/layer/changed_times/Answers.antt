@@ -1,4 +1,4 @@
-use Rattle.std.proofs.Common.{◌≡◌, ℕ, List, map, length, refl, ap, ◌∙◌}
+use Rattle.std.proofs.Common.{◌≡◌, map, length, refl, ap, ◌∙◌}
 use lib.ListN.{length-map}
 use Rattle.schedule.proofs.Changing.{front_is, front_long}
 use Rattle.schedule.proofs.layer.changed_times.Goals as goal

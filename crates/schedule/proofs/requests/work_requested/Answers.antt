@@ -1,4 +1,4 @@
-use Rattle.std.proofs.Common.{◌≡◌, ℕ, ◌+◌, ◌^◌, ◌<◌, ◌≤◌, arith}
+use Rattle.std.proofs.Common.{arith}
 use Rattle.schedule.proofs.Requesting.{requested_done, requested_more}
 use Rattle.schedule.proofs.requests.work_requested.Goals as goal
 

@@ -1,6 +1,4 @@
-use Rattle.std.proofs.Common.{drop}
 use Rattle.schedule.specs.Deciding.{AllTimely}
-use Rattle.schedule.specs.Laws.{Exactly}
 use Rattle.schedule.proofs.Demanding.{rest, whole_list}
 use Rattle.schedule.proofs.shape.is_timely.Given as goal
 

@@ -1,4 +1,4 @@
-use Rattle.std.proofs.Common.{◌≡◌, ◌+◌, ◌*◌, [], ◌∷◌, length, sym, ap, ◌∙◌}
+use Rattle.std.proofs.Common.{◌+◌, ◌*◌, [], ◌∷◌, length, ap, ◌∙◌}
 use Rattle.book.specs.Held.{times_in}
 use Rattle.sheet.specs.Encoding.{four_bytes, time_bytes}
 use Rattle.sheet.specs.Writing.{over}

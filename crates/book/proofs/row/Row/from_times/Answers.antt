@@ -1,4 +1,4 @@
-use Rattle.std.proofs.Common.{◌≡◌, false, length, drop, replicate, sym, refl, ap, ◌∙◌, arith, rules}
+use Rattle.std.proofs.Common.{◌≡◌, false, arith, rules}
 use Rattle.book.specs.Entering.{any_outside, rises}
 use Rattle.book.proofs.Rows.{front_within, front_falling, front_taken, front_long, front_ones, row_passes}
 use Rattle.book.proofs.row.Row.from_times.Goals as goal

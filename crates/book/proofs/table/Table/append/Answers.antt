@@ -1,4 +1,4 @@
-use Rattle.std.proofs.Common.{refl, arith, rules}
+use Rattle.std.proofs.Common.{refl, arith}
 use Rattle.book.proofs.Places.{behind_last}
 use Rattle.book.proofs.Tables.{append_order, table_appended}
 use Rattle.book.proofs.table.Table.append.Goals as goal

@@ -1,4 +1,4 @@
-use Rattle.std.proofs.Common.{◌≡◌, ◌++◌, sym, refl, ap, ◌∙◌, subst, arith, rules}
+use Rattle.std.proofs.Common.{refl, arith, rules}
 use Rattle.book.specs.Held.{blank, fields}
 use Rattle.book.proofs.Moves.{spare_less}
 use Rattle.book.proofs.Tables.{room_cycle, inserted_ascends, inserted_cycle, inserted_done}

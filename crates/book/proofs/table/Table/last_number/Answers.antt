@@ -1,4 +1,4 @@
-use Rattle.std.proofs.Common.{◌-◌, sym, ap, ◌∙◌, arith, rules}
+use Rattle.std.proofs.Common.{◌-◌, sym, ap, ◌∙◌, arith}
 use Rattle.book.specs.Entering.{last_number}
 use Rattle.book.specs.Held.{records}
 use Rattle.book.proofs.Places.{last_slot, slot_number}

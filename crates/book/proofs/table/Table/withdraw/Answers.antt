@@ -1,4 +1,4 @@
-use Rattle.std.proofs.Common.{◌≡◌, map, length, take, drop, sym, refl, ap, ◌∙◌, subst, arith, rules}
+use Rattle.std.proofs.Common.{map, drop, refl, arith, rules}
 use Rattle.book.specs.Held.{blank, fields}
 use Rattle.book.proofs.Amends.{withdraw_done, withdraw_unknown}
 use Rattle.book.proofs.Moves.{spare_more}

@@ -1,6 +1,5 @@
 use Rattle.std.proofs.Common.{arith}
 use Rattle.std.proofs.lemmas.Result.{err_from_is_err_and}
-use Rattle.book.specs.Ledger.{task_record}
 use Rattle.book.proofs.Tasks.{row_refused}
 use Rattle.book.proofs.task.Task.new.Goals as goal
 

@@ -1,4 +1,4 @@
-use Rattle.std.proofs.Common.{◌≡◌, ◌+◌, ◌/◌, ◌%◌, ◌<◌, ◌≤◌, [], ◌∷◌, ◌++◌, length, sym, ap, ◌∙◌, arith}
+use Rattle.std.proofs.Common.{◌+◌, ◌%◌, [], ◌∷◌, ◌++◌, length, ap, ◌∙◌, arith}
 use Rattle.report.specs.Held.{text_in}
 use Rattle.report.proofs.Puts.{number_long, number_more, number_one}
 use Rattle.report.proofs.text.Text.+put_number.Goals as goal

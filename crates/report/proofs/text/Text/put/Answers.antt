@@ -1,4 +1,4 @@
-use Rattle.std.proofs.Common.{refl, arith}
+use Rattle.std.proofs.Common.{refl}
 use Rattle.report.proofs.Puts.{put_long, put_text}
 use Rattle.report.proofs.text.Text.put.Goals as goal
 

@@ -1,9 +1,8 @@
-use Rattle.std.proofs.Common.{◌≡◌, ◌≤◌, map, length, Some, None, sym, ap, ◌∙◌, subst, arith}
+use Rattle.std.proofs.Common.{◌≤◌, length, Some, None, ap, ◌∙◌, subst, arith}
 use Rattle.book.specs.Books.{holds}
-use Rattle.book.specs.Held.{record_of}
-use Rattle.schedule.specs.FixedPriority.{fixed_priority, response_at}
+use Rattle.schedule.specs.FixedPriority.{response_at}
 use Rattle.schedule.specs.Fixed.{told_answer, told_failed, told_least, told_passed, told_past, told_short}
-use Rattle.schedule.proofs.Slices.{slice_ascends, slice_past}
+use Rattle.schedule.proofs.Slices.{slice_past}
 use Rattle.schedule.proofs.fixed_priority.FixedPriorityTimingTest.tell.Goals as goal
 
 pub returns-then-not-ask : goal.returns-then-not-ask

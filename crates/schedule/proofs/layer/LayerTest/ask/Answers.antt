@@ -1,4 +1,4 @@
-use Rattle.std.proofs.Common.{◌≡◌, ap, ◌∙◌}
+use Rattle.std.proofs.Common.{ap, ◌∙◌}
 use Rattle.book.specs.Books.{holds}
 use Rattle.schedule.specs.Timed.{well_shaped}
 use Rattle.schedule.specs.Layered.{layered_lawful, layered_open, layered_shut}
