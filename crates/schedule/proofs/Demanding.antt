@@ -9,8 +9,8 @@ use Rattle.book.specs.declared.task.Task.{Task}
 use Rattle.schedule.specs.Deciding.{AllTimely, MetBefore}
 use Rattle.schedule.specs.Demands.{dues, processor_demand}
 use Rattle.schedule.specs.Timed.{Timed, timed}
-use Rattle.schedule.specs.Counts.{dues_grow, dues_none, dues_reach, dues_some}
-use Rattle.schedule.specs.Sums.{demand_grows, demand_none, formed}
+use Rattle.schedule.specs.Lemmas.Counts.{dues_grow, dues_none, dues_reach, dues_some}
+use Rattle.schedule.specs.Lemmas.Sums.{demand_grows, demand_none, formed}
 
 -- the tasks and times from a place on
 abbrev pub rest : List Task → List ℕ → ℕ → List Timed

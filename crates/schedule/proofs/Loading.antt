@@ -6,7 +6,7 @@ use Rattle.book.specs.Classes.{work_in}
 use Rattle.book.specs.Held.{record_of}
 use Rattle.book.specs.declared.task.Task.{Task}
 use Rattle.schedule.specs.Deciding.{AllTimely, early_work}
-use Rattle.schedule.specs.Bounds.{work_within}
+use Rattle.schedule.specs.Lemmas.Bounds.{work_within}
 use Rattle.schedule.proofs.Demanding.{rest, rest_more, rest_none, timely_here, timely_on, whole_list}
 
 -- the work of the tasks from a place on

@@ -4,7 +4,7 @@ use Rattle.std.proofs.lemmas.List.{drop_all, drop_more}
 use Rattle.std.proofs.lemmas.Bool.{cases_lt}
 use Rattle.book.specs.Held.{record_of}
 use Rattle.book.specs.declared.task.Task.{Task}
-use Rattle.schedule.specs.Counts.{releases_up}
+use Rattle.schedule.specs.Lemmas.Counts.{releases_up}
 use Rattle.schedule.specs.Demands.{requested}
 use Rattle.schedule.specs.Timed.{timed}
 

@@ -10,11 +10,11 @@ use Rattle.schedule.specs.FixedPriority.{each, fixed_priority, higher, response,
 use Rattle.schedule.specs.Interference.{NotBefore, demand_at}
 use Rattle.schedule.specs.Least.{Least}
 use Rattle.schedule.specs.Timed.{Timed, deadline_at, timed, well_shaped}
-use Rattle.schedule.specs.Counts.{releases_some}
-use Rattle.schedule.specs.Fixed.{higher_before, timed_deadline, timed_long, timed_numbers, timed_take, timed_time}
-use Rattle.schedule.specs.Shapes.{deadlines_short, nowhere_zero_at, shaped_parts}
-use Rattle.schedule.specs.Solutions.{below_some, least_is, least_one, least_same}
-use Rattle.schedule.specs.Sums.{requested_grows}
+use Rattle.schedule.specs.Lemmas.Counts.{releases_some}
+use Rattle.schedule.specs.Lemmas.Fixed.{higher_before, timed_deadline, timed_long, timed_numbers, timed_take, timed_time}
+use Rattle.schedule.specs.Lemmas.Shapes.{deadlines_short, nowhere_zero_at, shaped_parts}
+use Rattle.schedule.specs.Lemmas.Solutions.{below_some, least_is, least_one, least_same}
+use Rattle.schedule.specs.Lemmas.Sums.{requested_grows}
 
 blank : Timed
 blank = record { number = 0; period = 0; deadline = 0; time = 0 }

@@ -7,7 +7,7 @@ use Rattle.book.specs.Ledger.{Ledger, number_of}
 use Rattle.book.specs.Rules.{Ascending}
 use Rattle.book.specs.declared.task.Task.{Task}
 use Rattle.schedule.specs.Timed.{well_shaped}
-use Rattle.schedule.specs.Shapes.{shaped_parts}
+use Rattle.schedule.specs.Lemmas.Shapes.{shaped_parts}
 
 module _ (ts : List Task) (l : Ledger) (lent : map record_of ts ≡ l.tasks) (keeps : KeepsRules l) where
   pub slice_ascends : Ascending (map number_of (map record_of ts))

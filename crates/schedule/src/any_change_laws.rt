@@ -1,7 +1,7 @@
 // Either kind of change is one.
 ghost use Rattle.schedule.specs.AnyLayer.{changed_by};
 ghost use Rattle.schedule.specs.declared.any_change.AnyChange.TheVariants as any;
-ghost use Rattle.schedule.specs.Layered.{charged_order, widened_order, charged_never, widened_never};
+ghost use Rattle.schedule.specs.Lemmas.Layered.{charged_order, widened_order, charged_never, widened_never};
 
 use crate::any_change::AnyChange;
 use crate::change::Change;

@@ -3,7 +3,7 @@ ghost use Rattle.std.specs.Prelude.{max, map};
 ghost use Rattle.schedule.specs.Demands.{requested};
 ghost use Rattle.schedule.specs.Timed.{timed};
 ghost use Rattle.std.proofs.Common.{arith, rules};
-ghost use Rattle.schedule.specs.Sums.{requested_grows};
+ghost use Rattle.schedule.specs.Lemmas.Sums.{requested_grows};
 
 use crate::demand::Demand;
 use crate::requests::work_requested;

@@ -2,7 +2,7 @@
 ghost use Rattle.std.specs.Prelude.{◌≡◌, ◌≤◌};
 ghost use Rattle.book.specs.Checks.{Made};
 ghost use Rattle.schedule.specs.Layers.{charge_answer, charged};
-ghost use Rattle.std.proofs.Common.{rules, arith};
+ghost use Rattle.schedule.specs.Lemmas.Layered.{charged_never, charged_order};
 
 use crate::change::{CAP, Change};
 use book::refusal::Refusal;
@@ -31,9 +31,9 @@ impl Charge {
 impl Change for Charge {
     ghost changed = { λ c x. charged c.ticks x };
 
-    ghost keeps_order = { first_of (Prim.search rules, Prim.grind (arith, Self.row.coded.inj)) };
+    ghost keeps_order = { λ charge x y le. charged_order charge.ticks x y le };
 
-    ghost never_shortens = { first_of (Prim.search rules, Prim.grind (arith, Self.row.coded.inj)) };
+    ghost never_shortens = { λ charge x le. charged_never charge.ticks x le };
 
     fn change(&self, time: u32) -> u32 {
         (time as u64 + 2 * self.ticks as u64).min(CAP) as u32

@@ -3,7 +3,7 @@ ghost use Rattle.std.specs.Prelude.{◌≡◌};
 ghost use Rattle.book.specs.Books.{holds};
 ghost use Rattle.schedule.specs.EarliestDeadline.{AlwaysMet, earliest_deadline};
 ghost use Rattle.schedule.specs.Laws.{Exactly, Lawful};
-ghost use Rattle.schedule.specs.Earliest.{earliest_lawful};
+ghost use Rattle.schedule.specs.Lemmas.Earliest.{earliest_lawful};
 
 use crate::due::is_met_before;
 use crate::horizon::horizon;

@@ -8,7 +8,7 @@ ghost use Rattle.schedule.specs.FixedPriority.{EachResponds, LeastResponse, fixe
 ghost use Rattle.schedule.specs.Interference.{NotBefore};
 ghost use Rattle.schedule.specs.Laws.{Exactly, Lawful, Tells};
 ghost use Rattle.schedule.specs.Timed.{well_shaped};
-ghost use Rattle.schedule.specs.Fixed.{fixed_lawful, fixed_tells};
+ghost use Rattle.schedule.specs.Lemmas.Fixed.{fixed_lawful, fixed_tells};
 
 use crate::demand::least_solution_from;
 use crate::response::Response;

@@ -1,7 +1,7 @@
 // Layers: a test over any test, asking it with changed times.
 ghost use Rattle.std.specs.Prelude.{◌≡◌, ◌-◌, ◌≤◌, map, length, take};
 ghost use Rattle.schedule.specs.Layers.{layered, layered_told};
-ghost use Rattle.schedule.specs.Layered.{layered_lawful, layered_tells};
+ghost use Rattle.schedule.specs.Lemmas.Layered.{layered_lawful, layered_tells};
 
 use crate::change::{Change, change_all};
 use crate::shape::is_well_shaped;

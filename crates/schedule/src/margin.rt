@@ -2,7 +2,7 @@
 ghost use Rattle.std.specs.Prelude.{◌≡◌, ◌≤◌};
 ghost use Rattle.book.specs.Checks.{Made};
 ghost use Rattle.schedule.specs.Layers.{margin_answer, widened};
-ghost use Rattle.schedule.specs.Layered.{widened_order, widened_never};
+ghost use Rattle.schedule.specs.Lemmas.Layered.{widened_order, widened_never};
 
 use crate::change::{CAP, Change};
 use book::refusal::Refusal;
@@ -34,9 +34,9 @@ impl Margin {
 impl Change for Margin {
     ghost changed = { λ m x. widened m.thousandths x };
 
-    ghost keeps_order = { λ change x y le. widened_order change.thousandths x y le };
+    ghost keeps_order = { λ margin x y le. widened_order margin.thousandths x y le };
 
-    ghost never_shortens = { λ change x le. widened_never change.thousandths x change.within.0 le };
+    ghost never_shortens = { λ margin x le. widened_never margin.thousandths x margin.within.0 le };
 
     fn change(&self, time: u32) -> u32 {
         let widened = (time as u64 * self.thousandths as u64).div_ceil(1000);

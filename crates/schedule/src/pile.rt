@@ -2,7 +2,7 @@
 ghost use Rattle.std.specs.Prelude.{◌≡◌, ℕ, List, [], ◌∷◌};
 ghost use Rattle.schedule.specs.Layers.{PassesHanded, TellsHanded, handed};
 ghost use Rattle.std.proofs.Common.{rules};
-ghost use Rattle.schedule.specs.Layered.{passes_handed_more, stays_some, tells_handed_more};
+ghost use Rattle.schedule.specs.Lemmas.Layered.{passes_handed_more, stays_some, tells_handed_more};
 
 use crate::change::{Change, change_all};
 use crate::fixed_priority::FixedPriority;

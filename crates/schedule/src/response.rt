@@ -2,8 +2,8 @@
 ghost use Rattle.std.specs.Prelude.{◌+◌, ◌≤◌, map};
 ghost use Rattle.schedule.specs.Demands.{requested};
 ghost use Rattle.schedule.specs.Timed.{timed};
-ghost use Rattle.std.proofs.Common.{arith, rules};
-ghost use Rattle.schedule.specs.Sums.{requested_grows};
+ghost use Rattle.std.proofs.Common.{arith};
+ghost use Rattle.schedule.specs.Lemmas.Sums.{requested_grows};
 
 use crate::demand::Demand;
 use crate::requests::work_requested;
@@ -20,7 +20,7 @@ pub(crate) struct Response {
 impl Demand for Response {
     ghost asked = { λ d ts xs t. d.own + requested (timed ts xs) t };
 
-    ghost some = { first_of (Prim.search rules, Prim.grind (arith, Self.row.coded.inj)) };
+    ghost some = { λ demand ts xs t one. omega (arith, demand.some) };
 
     ghost grows = { λ demand ts xs s t one le. omega (arith, requested_grows (timed ts xs) s t le) };
 

@@ -1,7 +1,7 @@
 use Rattle.std.proofs.Common.{◌≡◌, ℕ, ◌<◌, ◌≤◌, map, ⊎_elim, arith}
 use Rattle.std.proofs.lemmas.Bool.{cases_lt}
 use Rattle.book.specs.Held.{record_of}
-use Rattle.schedule.specs.Solutions.{below_some}
+use Rattle.schedule.specs.Lemmas.Solutions.{below_some}
 use Rattle.schedule.proofs.demand.least_solution_from.Goals as goal
 
 pub returns-in_err-next : goal.returns-in_err-next

@@ -1,7 +1,7 @@
 use Rattle.std.proofs.Common.{◌-◌, arith}
 use Rattle.std.proofs.lemmas.Bool.{false≢true}
 use Rattle.schedule.proofs.Demanding.{met_down, not_met, whole_list}
-use Rattle.schedule.specs.Sums.{demand_grows}
+use Rattle.schedule.specs.Lemmas.Sums.{demand_grows}
 use Rattle.schedule.proofs.due.is_met_before.Goals as goal
 
 pub due_by-due-requires : goal.due_by-due-requires

@@ -8,8 +8,8 @@ use Rattle.schedule.specs.Interference.{demand_at}
 use Rattle.schedule.specs.Least.{Least}
 use Rattle.schedule.specs.Timed.{deadline_at, deadline_of, timed}
 use Rattle.schedule.proofs.Responding.{response_is}
-use Rattle.schedule.specs.Shapes.{nowhere_zero_at, shaped_parts}
-use Rattle.schedule.specs.Solutions.{least_same}
+use Rattle.schedule.specs.Lemmas.Shapes.{nowhere_zero_at, shaped_parts}
+use Rattle.schedule.specs.Lemmas.Solutions.{least_same}
 use Rattle.schedule.proofs.fixed_priority.response_time.Goals as goal
 
 -- there is a time for the place

@@ -2,7 +2,7 @@ use Rattle.std.proofs.Common.{map, arith}
 use Rattle.book.proofs.Keeps.{all_keep}
 use Rattle.book.specs.Held.{record_of}
 use Rattle.schedule.specs.Timed.{timed}
-use Rattle.schedule.specs.Sums.{enough, formed}
+use Rattle.schedule.specs.Lemmas.Sums.{enough, formed}
 use Rattle.schedule.proofs.horizon.busy_end.Goals as goal
 
 pub returns-in-Some : goal.returns-in-Some

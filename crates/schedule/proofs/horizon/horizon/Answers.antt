@@ -4,7 +4,7 @@ use Rattle.book.specs.Classes.{work_in}
 use Rattle.book.specs.Held.{record_of}
 use Rattle.schedule.specs.Deciding.{early_work}
 use Rattle.schedule.specs.Timed.{timed}
-use Rattle.schedule.specs.Bounds.{cycle_suffices, limit_suffices}
+use Rattle.schedule.specs.Lemmas.Bounds.{cycle_suffices, limit_suffices}
 use Rattle.schedule.proofs.horizon.horizon.Goals as goal
 
 pub returns-then-load-cycle-2 : goal.returns-then-load-cycle-2

@@ -3,7 +3,7 @@ use Rattle.std.proofs.lemmas.List.{at_drop_all, at_drop_more, length-map}
 use Rattle.std.proofs.lemmas.Bool.{lt-ltb}
 use Rattle.book.specs.Held.{record_of}
 use Rattle.schedule.specs.Timed.{nowhere_zero, well_shaped}
-use Rattle.schedule.specs.Shapes.{false_from, nowhere_zero_at, shaped_from, shaped_parts}
+use Rattle.schedule.specs.Lemmas.Shapes.{false_from, nowhere_zero_at, shaped_from, shaped_parts}
 use Rattle.schedule.proofs.shape.is_well_shaped.Goals as goal
 
 pub returns-then-times-tasks : goal.returns-then-times-tasks

@@ -13,9 +13,9 @@ use Rattle.book.proofs.Multiples.{hyperperiod_pos}
 use Rattle.schedule.specs.EarliestDeadline.{AlwaysMet, earliest_deadline}
 use Rattle.schedule.specs.Laws.{Exactly}
 use Rattle.schedule.specs.Timed.{timed}
-use Rattle.schedule.specs.Earliest.{decides, earliest_answer, earliest_is, earliest_lawful, fails_cycle, fails_late, fails_shape, periods_positive}
+use Rattle.schedule.specs.Lemmas.Earliest.{decides, earliest_answer, earliest_is, earliest_lawful, fails_cycle, fails_late, fails_shape, periods_positive}
 use Rattle.schedule.proofs.Slices.{slice_few, slice_shaped}
-use Rattle.schedule.specs.Sums.{demand_requested, formed, requested_fits}
+use Rattle.schedule.specs.Lemmas.Sums.{demand_requested, formed, requested_fits}
 use Rattle.schedule.proofs.earliest_deadline.EarliestDeadlineTest.ask.Goals as goal
 
 -- what is decided of the tasks lent is the test's answer to the ledger

@@ -5,7 +5,7 @@ use Rattle.book.specs.Books.{holds}
 use Rattle.book.specs.Held.{record_of}
 use Rattle.schedule.specs.FixedPriority.{each, fixed_priority, response}
 use Rattle.schedule.specs.Timed.{timed, well_shaped}
-use Rattle.schedule.specs.Fixed.{fixed_answer, fixed_lawful}
+use Rattle.schedule.specs.Lemmas.Fixed.{fixed_answer, fixed_lawful}
 use Rattle.schedule.proofs.Responding.{not_before_next, not_before_none, response_short, responds_all, responds_step, responds_stop}
 use Rattle.schedule.proofs.Slices.{slice_ascends, slice_here, slice_past}
 use Rattle.schedule.proofs.fixed_priority.FixedPriorityTest.ask.Goals as goal

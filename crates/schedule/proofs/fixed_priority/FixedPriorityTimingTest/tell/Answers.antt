@@ -1,7 +1,7 @@
 use Rattle.std.proofs.Common.{◌≤◌, length, Some, None, ap, ◌∙◌, subst, arith}
 use Rattle.book.specs.Books.{holds}
 use Rattle.schedule.specs.FixedPriority.{response_at}
-use Rattle.schedule.specs.Fixed.{told_answer, told_failed, told_least, told_passed, told_past, told_short}
+use Rattle.schedule.specs.Lemmas.Fixed.{told_answer, told_failed, told_least, told_passed, told_past, told_short}
 use Rattle.schedule.proofs.Slices.{slice_past}
 use Rattle.schedule.proofs.fixed_priority.FixedPriorityTimingTest.tell.Goals as goal
 

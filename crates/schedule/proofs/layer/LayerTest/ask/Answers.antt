@@ -1,7 +1,7 @@
 use Rattle.std.proofs.Common.{ap, ◌∙◌}
 use Rattle.book.specs.Books.{holds}
 use Rattle.schedule.specs.Timed.{well_shaped}
-use Rattle.schedule.specs.Layered.{layered_lawful, layered_open, layered_shut}
+use Rattle.schedule.specs.Lemmas.Layered.{layered_lawful, layered_open, layered_shut}
 use Rattle.schedule.proofs.layer.LayerTest.ask.Goals as goal
 
 pub returns-then-not-is_well_shaped : goal.returns-then-not-is_well_shaped

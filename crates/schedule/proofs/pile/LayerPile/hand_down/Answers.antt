@@ -1,6 +1,6 @@
 use Rattle.std.proofs.Common.{ap, ◌∙◌}
 use Rattle.schedule.specs.Layers.{handed}
-use Rattle.schedule.specs.Layered.{passes_handed_more, stays_some, tells_handed_more}
+use Rattle.schedule.specs.Lemmas.Layered.{passes_handed_more, stays_some, tells_handed_more}
 use Rattle.schedule.proofs.pile.LayerPile.hand_down.Goals as goal
 
 pub returns : goal.returns

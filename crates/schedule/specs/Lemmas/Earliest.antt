@@ -12,9 +12,9 @@ use Rattle.schedule.specs.Demands.{processor_demand}
 use Rattle.schedule.specs.EarliestDeadline.{AlwaysMet, every_to, earliest_deadline}
 use Rattle.schedule.specs.Laws.{Shorter, Lawful, Exactly}
 use Rattle.schedule.specs.Timed.{timed, well_shaped, deadline_at}
-use Rattle.schedule.specs.Bounds.{work_requested}
-use Rattle.schedule.specs.Shapes.{false_from, shaped_parts, shorter_shaped}
-use Rattle.schedule.specs.Sums.{formed, enough, whole, demand_shorter, met_timely, timely_at}
+use Rattle.schedule.specs.Lemmas.Bounds.{work_requested}
+use Rattle.schedule.specs.Lemmas.Shapes.{false_from, shaped_parts, shorter_shaped}
+use Rattle.schedule.specs.Lemmas.Sums.{formed, enough, whole, demand_shorter, met_timely, timely_at}
 
 -- the periods of a book's tasks are at least 1
 pub periods_positive : (ts : List TaskRecord) → AllKeep ts → AllPositive (map period_of ts)

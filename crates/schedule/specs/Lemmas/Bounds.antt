@@ -11,8 +11,8 @@ use Rattle.book.specs.Ledger.{TaskRecord, period_of}
 use Rattle.schedule.specs.Deciding.{Suffices, early_work}
 use Rattle.schedule.specs.Demands.{releases, requested, dues, processor_demand}
 use Rattle.schedule.specs.Timed.{timed}
-use Rattle.schedule.specs.Counts.{dues_below, releases_whole}
-use Rattle.schedule.specs.Sums.{enough, formed}
+use Rattle.schedule.specs.Lemmas.Counts.{dues_below, releases_whole}
+use Rattle.schedule.specs.Lemmas.Sums.{enough, formed}
 
 -- a multiple of a period is its quotient times the period
 parts : (h p : ℕ) → p ∣ h → h ≡ h / p * p

@@ -9,7 +9,7 @@ use Rattle.schedule.specs.FixedPriority.{fixed_priority, fixed_priority_told}
 use Rattle.schedule.specs.Laws.{Shorter, Lawful, Tells}
 use Rattle.schedule.specs.Layers.{charged, widened, layered, layered_told, handed, PassesHanded, TellsHanded}
 use Rattle.schedule.specs.Timed.{nowhere_zero, well_shaped, deadline_at}
-use Rattle.schedule.specs.Shapes.{deadlines_short, shaped_parts, shorter_shaped}
+use Rattle.schedule.specs.Lemmas.Shapes.{deadlines_short, shaped_parts, shorter_shaped}
 
 -- where a shape is asked for first, what is told stays true
 tells_also : (shaped passes : Bool) (ts : List TaskRecord) (place : ℕ) (r : Option ℕ) → Tells passes ts place r → Tells (shaped && passes) ts place (cond shaped r None)

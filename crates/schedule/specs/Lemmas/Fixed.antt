@@ -11,9 +11,9 @@ use Rattle.schedule.specs.FixedPriority.{higher, response_demand, Responds, Each
 use Rattle.schedule.specs.Laws.{Shorter, Lawful, Exactly, Tells}
 use Rattle.schedule.specs.Least.{Least}
 use Rattle.schedule.specs.Timed.{Timed, timed, well_shaped, deadline_at}
-use Rattle.schedule.specs.Sums.{requested_grows}
-use Rattle.schedule.specs.Shapes.{deadlines_short, false_from, shaped_parts, shorter_shaped}
-use Rattle.schedule.specs.Solutions.{least_is, least_shorter, least_some_from, some_least}
+use Rattle.schedule.specs.Lemmas.Sums.{requested_grows}
+use Rattle.schedule.specs.Lemmas.Shapes.{deadlines_short, false_from, shaped_parts, shorter_shaped}
+use Rattle.schedule.specs.Lemmas.Solutions.{least_is, least_shorter, least_some_from, some_least}
 
 -- the timed tasks bear the numbers of the tasks
 pub timed_numbers : (ts : List TaskRecord) (xs : List ℕ) → length xs ≡ length ts → map (λ (j : Timed). j.number) (timed ts xs) ≡ map number_of ts

@@ -11,7 +11,7 @@ use Rattle.schedule.specs.Demands.{releases, requested, dues, processor_demand}
 use Rattle.schedule.specs.EarliestDeadline.{DemandMet}
 use Rattle.schedule.specs.Laws.{Shorter}
 use Rattle.schedule.specs.Timed.{Timed, timed, deadline_at}
-use Rattle.schedule.specs.Counts.{releases_grow, releases_most, releases_whole, dues_none, dues_reach, dues_grow, dues_shift, dues_releases, dues_whole}
+use Rattle.schedule.specs.Lemmas.Counts.{releases_grow, releases_most, releases_whole, dues_none, dues_reach, dues_grow, dues_shift, dues_releases, dues_whole}
 
 -- every deadline is at least 1 and at most the period
 abbrev pub AllFormed : List Timed → Type 0
