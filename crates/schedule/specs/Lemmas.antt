@@ -1,4 +1,4 @@
--- What the laws in src/ are proved by. A law's proof may cite specs/ alone, so these lemmas stand here and not in proofs/: no
+-- What the laws in src/ are proved by. Such a proof may cite the crate's specs/ and not its proofs/, so these lemmas stand here. No
 -- contract cites them, and whoever reads the contracts can pass them by.
 pub mod Bounds
 pub mod Counts

@@ -9,19 +9,19 @@ subst2 P {a} {b} {m} {n} e f h = subst (λ k. P b k) f (subst (λ k. P k m) e h)
 pub overflow_mul-work : goal.overflow_mul-work
 overflow_mul-work c =
     let f = due_fits c.args.tasks.now c.args.times.now c.args.last c.loop-i.i c.index-tasks-i.result c.loop-i.work c.loop-i.latest c.loop-i-test.true c.requires.same c.index-tasks-i.is
-    c.loop-i.invariant c.if-deadline-last.true in
+    c.loop-i.invariant (omega arith) in
     omega (arith, c.requires.fits)
 
 pub overflow_add-work-then-deadline-last : goal.overflow_add-work-then-deadline-last
 overflow_add-work-then-deadline-last c =
     let f = due_fits c.args.tasks.now c.args.times.now c.args.last c.loop-i.i c.index-tasks-i.result c.loop-i.work c.loop-i.latest c.loop-i-test.true c.requires.same c.index-tasks-i.is
-    c.loop-i.invariant c.if-deadline-last.true in
+    c.loop-i.invariant (omega arith) in
     omega (arith, c.requires.fits)
 
 pub loop-i-preserved : goal.loop-i-preserved
 loop-i-preserved c = elim c.if-deadline-last.branch [
   | then-deadline-last w ↦ due_on c.args.tasks.now c.args.times.now c.args.last c.loop-i.i c.index-tasks-i.result c.loop-i.work c.loop-i.latest
-      c.loop-i-test.true c.requires.same c.index-tasks-i.is c.loop-i.invariant w.if-deadline-last.true c.if-deadline-last.work c.if-deadline-last.latest w.work-is
+      c.loop-i-test.true c.requires.same c.index-tasks-i.is c.loop-i.invariant (omega (arith, w.if-deadline-last.true)) c.if-deadline-last.work c.if-deadline-last.latest w.work-is
       (omega (arith, w.latest-is, w.max-latest.ensures))
   | else-deadline-last w ↦ subst2 (λ n m. DueSoFar c.args.tasks.now c.args.times.now c.args.last (c.loop-i.i + 1) n m) (sym w.work-is) (sym w.latest-is)
       (due_off c.args.tasks.now c.args.times.now c.args.last c.loop-i.i c.index-tasks-i.result c.loop-i.work c.loop-i.latest
