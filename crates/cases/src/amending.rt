@@ -1,6 +1,7 @@
 // Amending one time of one task.
 use crate::common::{done, refused, two_tasks};
 use book::book::Book;
+use std::test::Fail;
 
 /// The time of the second task of the two-task book at a class.
 fn time(book: &Book, class: usize) -> u32 {
@@ -13,8 +14,8 @@ fn time(book: &Book, class: usize) -> u32 {
 }
 
 #[test]
-fn amend_checks_10_5_6_7(rt: HostRuntime) {
-    let mut book = two_tasks(&rt);
+fn amend_checks_10_5_6_7() -> Result<(), Fail> {
+    let mut book = two_tasks()?;
     let before = book;
     // number, class, time and the number of the refusal
     let cases = [
@@ -30,26 +31,29 @@ fn amend_checks_10_5_6_7(rt: HostRuntime) {
     ];
     for (number, class, time, by) in cases {
         let answer = book.amend(number, class, time);
-        refused(&rt, answer, by, &before, &book);
+        refused(answer, by, &before, &book)?;
     }
+    Ok(())
 }
 
 #[test]
-fn amend_at_the_first_and_the_last_class(rt: HostRuntime) {
-    let mut book = two_tasks(&rt);
+fn amend_at_the_first_and_the_last_class(rt: HostRuntime) -> Result<(), Fail> {
+    let mut book = two_tasks()?;
     // class 0 has no time before it, the last none after it
-    done(&rt, book.amend(2, 0, 1_000_000));
+    done(book.amend(2, 0, 1_000_000))?;
     assert_eq!(rt; time(&book, 0), 1_000_000);
-    done(&rt, book.amend(2, 3, 1));
+    done(book.amend(2, 3, 1))?;
     assert_eq!(rt; time(&book, 3), 1);
     assert_eq!(rt; time(&book, 1), 9);
+    Ok(())
 }
 
 #[test]
-fn amend_may_meet_its_neighbours(rt: HostRuntime) {
-    let mut book = two_tasks(&rt);
-    done(&rt, book.amend(2, 1, 12));
-    done(&rt, book.amend(2, 1, 9));
-    done(&rt, book.amend(2, 2, 5));
+fn amend_may_meet_its_neighbours(rt: HostRuntime) -> Result<(), Fail> {
+    let mut book = two_tasks()?;
+    done(book.amend(2, 1, 12))?;
+    done(book.amend(2, 1, 9))?;
+    done(book.amend(2, 2, 5))?;
     assert_eq!(rt; time(&book, 2), 5);
+    Ok(())
 }

@@ -3,6 +3,7 @@ use crate::common::{done, number, two_tasks};
 use book::book::Book;
 use book::class::class_size;
 use book::refusal::Refusal;
+use std::test::Fail;
 
 /// The number of an answer that holds a value otherwise.
 fn refusal<T: Drop>(answer: Result<T, Refusal>) -> u8 {
@@ -24,25 +25,26 @@ fn class_sizes_are_those_of_the_table(rt: HostRuntime) {
 }
 
 #[test]
-fn lists_of_the_two_task_book(rt: HostRuntime) {
-    let book = two_tasks(&rt);
-    done(&rt, book.check_list(&[2, 3]));
+fn lists_of_the_two_task_book(rt: HostRuntime) -> Result<(), Fail> {
+    let book = two_tasks()?;
+    done(book.check_list(&[2, 3]))?;
     assert_eq!(rt; number(book.check_list(&[2])), 15);
     assert_eq!(rt; number(book.check_list(&[2, 3, 0])), 15);
     assert_eq!(rt; number(book.check_list(&[3, 3])), 15);
     // 0 + 4 sets fit a cache of 4, and 2 + 4 do not
-    done(&rt, book.check_fit(&[0, 3]));
+    done(book.check_fit(&[0, 3]))?;
     assert_eq!(rt; number(book.check_fit(&[2, 3])), 16);
     assert_eq!(rt; number(book.check_fit(&[0, 4])), 15);
     // 20/10 * 4 + 20/20 * 5, and 20/10 * 2 + 20/20 * 9
     assert_eq!(rt; book.list_work(&[0, 3]).ok(), Some(13));
     assert_eq!(rt; book.list_work(&[2, 1]).ok(), Some(13));
     assert_eq!(rt; refusal(book.list_work(&[])), 15);
+    Ok(())
 }
 
 #[test]
-fn sizes_go_to_the_front_of_a_buffer(rt: HostRuntime) {
-    let book = two_tasks(&rt);
+fn sizes_go_to_the_front_of_a_buffer(rt: HostRuntime) -> Result<(), Fail> {
+    let book = two_tasks()?;
     let mut sizes = [7u16; 3];
     assert_eq!(rt; book.list_sizes(&[2, 3], &mut sizes).ok(), Some(2));
     assert_eq!(rt; sizes, [2, 4, 7]);
@@ -50,11 +52,12 @@ fn sizes_go_to_the_front_of_a_buffer(rt: HostRuntime) {
     let mut short = [7u16; 1];
     assert_eq!(rt; refusal(book.list_sizes(&[0, 0], &mut short)), 19);
     assert_eq!(rt; short, [7]);
+    Ok(())
 }
 
 #[test]
-fn times_go_to_the_front_of_a_buffer(rt: HostRuntime) {
-    let book = two_tasks(&rt);
+fn times_go_to_the_front_of_a_buffer(rt: HostRuntime) -> Result<(), Fail> {
+    let book = two_tasks()?;
     let mut times = [7u32; 3];
     assert_eq!(rt; book.list_times(&[2, 3], &mut times).ok(), Some(2));
     assert_eq!(rt; times, [2, 5, 7]);
@@ -63,12 +66,14 @@ fn times_go_to_the_front_of_a_buffer(rt: HostRuntime) {
     let mut short = [7u32; 1];
     assert_eq!(rt; refusal(book.list_times(&[0, 0], &mut short)), 19);
     assert_eq!(rt; short, [7]);
+    Ok(())
 }
 
 #[test]
-fn an_empty_book_has_the_empty_list(rt: HostRuntime) {
+fn an_empty_book_has_the_empty_list(rt: HostRuntime) -> Result<(), Fail> {
     let book = Book::new();
-    done(&rt, book.check_fit(&[]));
+    done(book.check_fit(&[]))?;
     assert_eq!(rt; book.list_work(&[]).ok(), Some(0));
     assert_eq!(rt; number(book.check_list(&[0])), 15);
+    Ok(())
 }

@@ -1,22 +1,24 @@
 // Making a book, entering tasks and withdrawing them.
 use crate::common::{done, refused, two_tasks};
 use book::book::Book;
+use std::test::Fail;
 
 #[test]
-fn a_cache_has_1_to_1024_sets(rt: HostRuntime) {
-    let mut book = two_tasks(&rt);
+fn a_cache_has_1_to_1024_sets(rt: HostRuntime) -> Result<(), Fail> {
+    let mut book = two_tasks()?;
     let before = book;
-    refused(&rt, book.make(0), 1, &before, &book);
-    refused(&rt, book.make(1025), 1, &before, &book);
-    done(&rt, book.make(1024));
+    refused(book.make(0), 1, &before, &book)?;
+    refused(book.make(1025), 1, &before, &book)?;
+    done(book.make(1024))?;
     assert_eq!(rt; book.cache_size(), 1024);
     assert_eq!(rt; book.task_count(), 0);
     assert_eq!(rt; Book::new().cache_size(), 1);
+    Ok(())
 }
 
 #[test]
-fn enter_refuses_by_the_first_check_that_applies(rt: HostRuntime) {
-    let mut book = two_tasks(&rt);
+fn enter_refuses_by_the_first_check_that_applies(rt: HostRuntime) -> Result<(), Fail> {
+    let mut book = two_tasks()?;
     let before = book;
     // number, period, deadline, the first and second of as many times, and the number of the refusal: a later check would
     // apply to most of them too
@@ -37,75 +39,78 @@ fn enter_refuses_by_the_first_check_that_applies(rt: HostRuntime) {
         let times = [first, second, 0, 0, 0, 0, 0, 0, 0, 0, 0, 0];
         assert!(rt; count <= 12);
         let answer = book.enter(number, period, deadline, &times[0..count]);
-        refused(&rt, answer, by, &before, &book);
+        refused(answer, by, &before, &book)?;
     }
+    Ok(())
 }
 
 #[test]
-fn a_row_has_1_to_11_times(rt: HostRuntime) {
+fn a_row_has_1_to_11_times(rt: HostRuntime) -> Result<(), Fail> {
     let mut book = Book::new();
-    done(&rt, book.enter(7, 1_000_000, 1, &[1_000_000]));
-    done(
-        &rt,
-        book.enter(9, 1, 1, &[11, 10, 9, 8, 7, 6, 5, 4, 3, 2, 1]),
-    );
+    done(book.enter(7, 1_000_000, 1, &[1_000_000]))?;
+    done(book.enter(9, 1, 1, &[11, 10, 9, 8, 7, 6, 5, 4, 3, 2, 1]))?;
     assert_eq!(rt; book.task_count(), 2);
     assert_eq!(rt; book.hyperperiod(), 1_000_000);
+    Ok(())
 }
 
 #[test]
-fn a_book_has_sixteen_tasks_at_most(rt: HostRuntime) {
+fn a_book_has_sixteen_tasks_at_most(rt: HostRuntime) -> Result<(), Fail> {
     let mut book = Book::new();
     for number in 1..17u8 {
-        done(&rt, book.enter(17 - number, 100, 50, &[3, 2]));
+        done(book.enter(17 - number, 100, 50, &[3, 2]))?;
     }
     assert_eq!(rt; book.task_count(), 16);
     let before = book;
-    refused(&rt, book.enter(16, 100, 50, &[3, 2]), 8, &before, &book);
-    refused(&rt, book.enter(17, 100, 50, &[3, 2]), 9, &before, &book);
+    refused(book.enter(16, 100, 50, &[3, 2]), 8, &before, &book)?;
+    refused(book.enter(17, 100, 50, &[3, 2]), 9, &before, &book)?;
     // the count of tasks comes before the hyperperiod
-    refused(&rt, book.enter(18, 999_983, 50, &[3, 2]), 9, &before, &book);
+    refused(book.enter(18, 999_983, 50, &[3, 2]), 9, &before, &book)?;
     let tasks = book.tasks();
     assert!(rt; tasks.len() == 16);
     assert_eq!(rt; tasks[0].number, 1);
     assert_eq!(rt; tasks[15].number, 16);
+    Ok(())
 }
 
 #[test]
-fn a_hyperperiod_is_at_most_10000000000(rt: HostRuntime) {
+fn a_hyperperiod_is_at_most_10000000000(rt: HostRuntime) -> Result<(), Fail> {
     let mut book = Book::new();
-    done(&rt, book.enter(5, 100_000, 1, &[1]));
+    done(book.enter(5, 100_000, 1, &[1]))?;
     let before = book;
-    refused(&rt, book.enter(6, 100_001, 1, &[1]), 11, &before, &book);
-    done(&rt, book.enter(6, 99_999, 1, &[1]));
+    refused(book.enter(6, 100_001, 1, &[1]), 11, &before, &book)?;
+    done(book.enter(6, 99_999, 1, &[1]))?;
     assert_eq!(rt; book.hyperperiod(), 9_999_900_000);
-    done(&rt, book.withdraw(5));
+    done(book.withdraw(5))?;
     assert_eq!(rt; book.hyperperiod(), 99_999);
+    Ok(())
 }
 
 #[test]
-fn withdraw_takes_out_one_task(rt: HostRuntime) {
-    let mut book = two_tasks(&rt);
+fn withdraw_takes_out_one_task(rt: HostRuntime) -> Result<(), Fail> {
+    let mut book = two_tasks()?;
     let before = book;
-    refused(&rt, book.withdraw(3), 10, &before, &book);
-    done(&rt, book.withdraw(1));
+    refused(book.withdraw(3), 10, &before, &book)?;
+    done(book.withdraw(1))?;
     assert_eq!(rt; book.task_count(), 1);
     assert_eq!(rt; book.hyperperiod(), 20);
-    done(&rt, book.enter(1, 10, 5, &[4, 3, 2]));
+    done(book.enter(1, 10, 5, &[4, 3, 2]))?;
     // equal books are equal values, whatever calls made them
-    refused(&rt, book.withdraw(9), 10, &before, &book);
-    done(&rt, book.withdraw(2));
-    done(&rt, book.withdraw(1));
+    refused(book.withdraw(9), 10, &before, &book)?;
+    done(book.withdraw(2))?;
+    done(book.withdraw(1))?;
     assert_eq!(rt; book.hyperperiod(), 1);
+    Ok(())
 }
 
 #[test]
-fn append_wants_a_number_above_the_last(rt: HostRuntime) {
-    let mut book = two_tasks(&rt);
+fn append_wants_a_number_above_the_last(rt: HostRuntime) -> Result<(), Fail> {
+    let mut book = two_tasks()?;
     let before = book;
-    refused(&rt, book.append(2, 10, 10, &[1]), 23, &before, &book);
-    refused(&rt, book.append(1, 10, 10, &[1]), 23, &before, &book);
-    refused(&rt, book.append(1, 10, 10, &[1, 2]), 7, &before, &book);
-    done(&rt, book.append(255, 10, 10, &[1]));
+    refused(book.append(2, 10, 10, &[1]), 23, &before, &book)?;
+    refused(book.append(1, 10, 10, &[1]), 23, &before, &book)?;
+    refused(book.append(1, 10, 10, &[1, 2]), 7, &before, &book)?;
+    done(book.append(255, 10, 10, &[1]))?;
     assert_eq!(rt; book.task_count(), 3);
+    Ok(())
 }

@@ -55,7 +55,7 @@ fn layers_are_made_within_their_ranges(rt: HostRuntime) {
 
 #[test]
 fn a_charge_is_paid_twice(rt: HostRuntime) -> Result<(), Fail> {
-    let book = book_of(&rt, &[(10, 4)]);
+    let book = book_of(&[(10, 4)])?;
     let fixed = Layer {
         change: charge(1)?,
         below: FixedPriority,
@@ -77,7 +77,7 @@ fn a_charge_is_paid_twice(rt: HostRuntime) -> Result<(), Fail> {
 
 #[test]
 fn the_outer_layer_changes_the_times_first(rt: HostRuntime) -> Result<(), Fail> {
-    let book = book_of(&rt, &[(10, 10)]);
+    let book = book_of(&[(10, 10)])?;
     // 3 * 1.5 rounded up is 5, and 2 more is 7
     let margin_outside = Layer {
         change: margin(1_500)?,
@@ -102,7 +102,7 @@ fn the_outer_layer_changes_the_times_first(rt: HostRuntime) -> Result<(), Fail> 
 #[test]
 fn a_margin_rounds_up_and_the_cap_comes_last(rt: HostRuntime) -> Result<(), Fail> {
     // 333,334 * 3 is 1,000,002; 1 * 1.001 rounded up is 2; 250,000 * 4 is 1,000,000, which a task may have
-    let book = book_of(&rt, &[(1_000_000, 1_000_000)]);
+    let book = book_of(&[(1_000_000, 1_000_000)])?;
     let treble = Layer {
         change: margin(3_000)?,
         below: FixedPriority,
@@ -143,7 +143,7 @@ fn a_pile_hands_its_times_down(rt: HostRuntime) -> Result<(), Fail> {
     let mut same = [3, 0];
     FixedPriority.hand_down(&mut same);
     assert!(rt; same == [3, 0]);
-    let book = book_of(&rt, &[(100, 50)]);
+    let book = book_of(&[(100, 50)])?;
     assert!(rt; pile.tell(&book, &[3], 0) == Some(50));
     assert!(rt; !pile.ask(&book, &[4]));
     // what is handed down would pass, but the list given has a 0

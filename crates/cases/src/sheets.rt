@@ -4,7 +4,6 @@ use book::book::Book;
 use sheet::fault::Fault;
 use sheet::load::load;
 use sheet::write::write;
-use std::process::Abort;
 use std::test::Fail;
 
 /// The sheet of the two-task book.
@@ -14,35 +13,42 @@ const TWO_TASKS: [u8; 51] = [
 ];
 
 /// The sheet is refused by this number at this place, and the whole book is as it was.
-fn refused(rt: &impl Abort, sheet: &[u8], by: u8, at: usize) -> Result<(), Fail> {
-    let before = two_tasks(rt);
+fn refused(sheet: &[u8], by: u8, at: usize) -> Result<(), Fail> {
+    let before = two_tasks()?;
     let mut book = before;
     match load(&mut book, sheet) {
         Ok(()) => return Err(Fail::new("the sheet loaded")),
         Err(Fault { refusal, place }) => {
-            assert_eq!(rt; refusal.number(), by);
-            assert_eq!(rt; place, at);
+            if refusal.number() != by {
+                return Err(Fail::new("the fault has another number"));
+            }
+            if place != at {
+                return Err(Fail::new("the fault is at another place"));
+            }
         }
     }
-    assert!(rt; book == before);
+    if book != before {
+        return Err(Fail::new("the book is not as it was"));
+    }
     Ok(())
 }
 
 #[test]
-fn the_two_task_sheet_loads_and_is_written_back(rt: HostRuntime) {
+fn the_two_task_sheet_loads_and_is_written_back(rt: HostRuntime) -> Result<(), Fail> {
     let mut book = Book::new();
     assert!(rt; load(&mut book, &TWO_TASKS).is_ok());
-    assert!(rt; book == two_tasks(&rt));
+    assert!(rt; book == two_tasks()?);
     let mut buffer = [170u8; 53];
     assert_eq!(rt; write(&book, &mut buffer).ok(), Some(51));
     assert!(rt; &buffer[0..51] == &TWO_TASKS[0..51]);
     assert_eq!(rt; buffer[51], 170);
     assert_eq!(rt; buffer[52], 170);
+    Ok(())
 }
 
 #[test]
 fn a_short_buffer_is_left_as_it_was(rt: HostRuntime) -> Result<(), Fail> {
-    let book = two_tasks(&rt);
+    let book = two_tasks()?;
     let mut buffer = [170u8; 50];
     match write(&book, &mut buffer) {
         Ok(_) => return Err(Fail::new("the buffer was long enough")),
@@ -53,10 +59,11 @@ fn a_short_buffer_is_left_as_it_was(rt: HostRuntime) -> Result<(), Fail> {
 }
 
 #[test]
-fn the_shortest_sheet_is_an_empty_book(rt: HostRuntime) {
-    let mut book = two_tasks(&rt);
+fn the_shortest_sheet_is_an_empty_book(rt: HostRuntime) -> Result<(), Fail> {
+    let mut book = two_tasks()?;
     assert!(rt; load(&mut book, &[1, 0, 1]).is_ok());
     assert!(rt; book == Book::new());
+    Ok(())
 }
 
 #[test]
@@ -75,15 +82,15 @@ fn heads_are_refused_at_0(rt: HostRuntime) -> Result<(), Fail> {
     ];
     for (sheet, count, by) in cases {
         assert!(rt; count <= 4);
-        refused(&rt, &sheet[0..count], by, 0)?;
+        refused(&sheet[0..count], by, 0)?;
     }
     Ok(())
 }
 
 #[test]
-fn a_cut_record_is_refused_at_its_length_byte(rt: HostRuntime) -> Result<(), Fail> {
-    refused(&rt, &TWO_TASKS[0..50], 21, 25)?;
-    refused(&rt, &TWO_TASKS[0..26], 21, 25)
+fn a_cut_record_is_refused_at_its_length_byte() -> Result<(), Fail> {
+    refused(&TWO_TASKS[0..50], 21, 25)?;
+    refused(&TWO_TASKS[0..26], 21, 25)
 }
 
 #[test]
@@ -106,7 +113,7 @@ fn records_are_refused_at_their_length_byte(rt: HostRuntime) -> Result<(), Fail>
         let mut sheet = TWO_TASKS;
         assert!(rt; index < 51);
         sheet[index] = byte;
-        refused(&rt, &sheet, by, 25)?;
+        refused(&sheet, by, 25)?;
     }
     Ok(())
 }
@@ -114,72 +121,72 @@ fn records_are_refused_at_their_length_byte(rt: HostRuntime) -> Result<(), Fail>
 #[test]
 fn the_hyperperiod_is_read_on_the_earlier_records(rt: HostRuntime) -> Result<(), Fail> {
     let mut book = Book::new();
-    done(&rt, book.enter(5, 100_000, 1, &[1]));
-    done(&rt, book.enter(6, 99_999, 1, &[1]));
+    done(book.enter(5, 100_000, 1, &[1]))?;
+    done(book.enter(6, 99_999, 1, &[1]))?;
     let mut sheet = [0u8; 31];
     assert_eq!(rt; write(&book, &mut sheet).ok(), Some(31));
     // 99,999 is 0x1869f, and 100,001 is 0x186a1
     sheet[22] = 161;
-    refused(&rt, &sheet, 11, 17)
+    refused(&sheet, 11, 17)
 }
 
 /// Puts the record before the last one over the last, which is of the same size.
-fn repeat_record(rt: &impl Abort, sheet: &mut [u8], size: usize) {
+fn repeat_record(sheet: &mut [u8], size: usize) -> Result<(), Fail> {
     let count = sheet.len();
-    assert!(rt; size <= 54);
-    assert!(rt; count >= 108);
+    if size > 54 || count < 108 {
+        return Err(Fail::new("the sheet has no two records of this size"));
+    }
     for i in 0..size {
         sheet[count - size + i] = sheet[count - 2 * size + i];
     }
+    Ok(())
 }
 
 /// A book of sixteen tasks with eleven times each.
-fn largest(rt: &impl Abort) -> Book {
+fn largest() -> Result<Book, Fail> {
     let mut book = Book::new();
-    done(rt, book.make(1024));
+    done(book.make(1024))?;
     for number in 240..256u16 {
-        done(
-            rt,
-            book.enter(
-                (number & 255) as u8,
-                1000,
-                1000,
-                &[11, 10, 9, 8, 7, 6, 5, 4, 3, 2, 1],
-            ),
-        );
+        done(book.enter(
+            (number & 255) as u8,
+            1000,
+            1000,
+            &[11, 10, 9, 8, 7, 6, 5, 4, 3, 2, 1],
+        ))?;
     }
-    book
+    Ok(book)
 }
 
 #[test]
-fn the_largest_sheet_goes_round(rt: HostRuntime) {
-    let book = largest(&rt);
+fn the_largest_sheet_goes_round(rt: HostRuntime) -> Result<(), Fail> {
+    let book = largest()?;
     let mut sheet = [0u8; 867];
     assert_eq!(rt; write(&book, &mut sheet).ok(), Some(867));
     let mut again = Book::new();
     assert!(rt; load(&mut again, &sheet).is_ok());
     assert!(rt; again == book);
+    Ok(())
 }
 
 #[test]
 fn the_number_of_a_seventeenth_record_comes_first(rt: HostRuntime) -> Result<(), Fail> {
     let mut sheet = [0u8; 921];
-    assert_eq!(rt; write(&largest(&rt), &mut sheet).ok(), Some(867));
-    repeat_record(&rt, &mut sheet, 54);
-    refused(&rt, &sheet, 23, 867)?;
+    assert_eq!(rt; write(&largest()?, &mut sheet).ok(), Some(867));
+    repeat_record(&mut sheet, 54)?;
+    refused(&sheet, 23, 867)?;
     sheet[868] = 0;
-    refused(&rt, &sheet, 2, 867)
+    refused(&sheet, 2, 867)
 }
 
 #[test]
 fn a_seventeenth_record_is_refused(rt: HostRuntime) -> Result<(), Fail> {
     let mut book = Book::new();
     for number in 1..17u8 {
-        done(&rt, book.enter(number, 100, 50, &[3]));
+        done(book.enter(number, 100, 50, &[3]))?;
     }
     let mut sheet = [0u8; 241];
     assert_eq!(rt; write(&book, &mut sheet).ok(), Some(227));
-    repeat_record(&rt, &mut sheet, 14);
+    repeat_record(&mut sheet, 14)?;
     sheet[228] = 17;
-    refused(&rt, &sheet, 9, 227)
+    refused(&sheet, 9, 227)
 }
