@@ -5,12 +5,12 @@ use Rattle.book.specs.Books.{amend_answer, append_answer, enter_answer, holds, r
 use Rattle.book.specs.Checks.{Check, Did, Made, judged}
 use Rattle.book.specs.Entering.{append_last, clash_checks, enter_among, enter_checks, entered, last_number, taken, task_checks}
 use Rattle.book.specs.Held.{record_of}
-use Rattle.book.specs.Ledger.{TaskRecord, task_record}
+use Rattle.book.specs.Ledger.{TaskRecord}
 use Rattle.book.specs.declared.book.Book.{Book}
 use Rattle.book.specs.declared.refusal.Refusal.{Refusal}
 use Rattle.book.specs.declared.refusal.Refusal.TheVariants as r
 use Rattle.book.specs.declared.task.Task.{Task}
-use Rattle.book.proofs.Answered.{done_same, passed_on, refused_by}
+use Rattle.book.proofs.Answered.{done_same, passed_on}
 use Rattle.book.proofs.Same.{book_same}
 
 -- a book keeps its cache size, so it answers as its table does
@@ -49,12 +49,6 @@ module _ (clash : TaskRecord → List TaskRecord → Check) (placed : TaskRecord
       ∙ sym (passed_on (task_checks t) (clash_checks (clash t ts) t ts) t (placed t ts) (record_of task) m) in
       book_did old new (taken_in t ts) r p (subst (λ a. Did records_in old.table new.table a r) e d)
 
-  pub book_refused : (old : Book) (t : TaskRecord) (e : Refusal) → judged (task_checks t) t ≡ Err e
-      → with_tasks (holds old) (taken_in t (records_in old.table)) ≡ Err e
-  book_refused old t e m =
-      let ts = records_in old.table in
-      ap (with_tasks (holds old)) (refused_by (task_checks t) (clash_checks (clash t ts) t ts) t (placed t ts) e m)
-
 -- the two ways of taking a task in
 abbrev pub by_number : TaskRecord → List TaskRecord → Check
 by_number t ts = (taken t.number ts, r.Taken)
@@ -65,14 +59,12 @@ by_order t ts = (leb t.number (last_number ts), r.Order)
 abbrev pub behind : TaskRecord → List TaskRecord → List TaskRecord
 behind t ts = ts ++ t ∷ []
 
-pub book_entered : (old new : Book) (n p d : ℕ) (ts : List ℕ) (task : Task) (res : Result (Unit {0}) Refusal) → new.cache ≡ old.cache
-    → Made record_of (judged (task_checks (task_record n p d ts)) (task_record n p d ts)) (Ok task)
-    → Did records_in old.table new.table (enter_among (record_of task) (records_in old.table)) res
-    → Did holds old new (enter_answer (holds old) (task_record n p d ts)) res
-book_entered old new n p d ts = book_took by_number entered old new (task_record n p d ts)
+pub book_entered : (old new : Book) (t : TaskRecord) (task : Task) (res : Result (Unit {0}) Refusal) → new.cache ≡ old.cache
+    → Made record_of (judged (task_checks t) t) (Ok task) → Did records_in old.table new.table (enter_among (record_of task) (records_in old.table)) res
+    → Did holds old new (enter_answer (holds old) t) res
+book_entered = book_took by_number entered
 
-pub book_appended : (old new : Book) (n p d : ℕ) (ts : List ℕ) (task : Task) (res : Result (Unit {0}) Refusal) → new.cache ≡ old.cache
-    → Made record_of (judged (task_checks (task_record n p d ts)) (task_record n p d ts)) (Ok task)
-    → Did records_in old.table new.table (append_last (record_of task) (records_in old.table)) res
-    → Did holds old new (append_answer (holds old) (task_record n p d ts)) res
-book_appended old new n p d ts = book_took by_order behind old new (task_record n p d ts)
+pub book_appended : (old new : Book) (t : TaskRecord) (task : Task) (res : Result (Unit {0}) Refusal) → new.cache ≡ old.cache
+    → Made record_of (judged (task_checks t) t) (Ok task) → Did records_in old.table new.table (append_last (record_of task) (records_in old.table)) res
+    → Did holds old new (append_answer (holds old) t) res
+book_appended = book_took by_order behind

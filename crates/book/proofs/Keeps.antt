@@ -1,8 +1,7 @@
 -- Every book keeps the rules: what its ghost fields say of the slots, said of the ledger.
-use Rattle.std.proofs.Common.{◌≡◌, ℕ, ◌<◌, ◌≤◌, List, [], ◌∷◌, map, length, get_or, sym, refl, ap, ◌∙◌, subst, arith}
-use Rattle.std.proofs.lemmas.List.{get_or_past, get_or-take, length-take-le}
+use Rattle.std.proofs.Common.{◌≡◌, ◌≤◌, List, [], ◌∷◌, map, length, sym, refl, ap, ◌∙◌, subst, arith}
+use Rattle.std.proofs.lemmas.List.{length-take-le}
 use Rattle.book.specs.Books.{holds, records_in}
-use Rattle.book.specs.Classes.{time_at}
 use Rattle.book.specs.Held.{number_in, periods, record_of, times_in}
 use Rattle.book.specs.Hyperperiod.{IsHyperperiod, hyperperiod}
 use Rattle.book.specs.Keeping.{AllKeep, KeepsRules, TaskKeeps}
@@ -20,13 +19,6 @@ use Rattle.book.proofs.Tables.{record_periods, slots}
 
 row_long : (r : Row) → length (times_in r) ≡ r.count
 row_long r = length-take-le r.count r.times (omega (arith, r.sized))
-
--- a row read at a class that it has, and past its end
-pub time_here : (r : Row) (class : ℕ) → class < r.count → get_or r.times class 0 ≡ time_at (times_in r) class
-time_here r class lt = sym (get_or-take r.count r.times class 0 lt)
-
-pub time_past : (r : Row) (class : ℕ) → r.count ≤ class → 0 ≡ time_at (times_in r) class
-time_past r class le = sym (get_or_past (times_in r) class 0 (omega (arith, row_long r)))
 
 task_keeps : (t : Task) → TaskKeeps (record_of t)
 task_keeps t =

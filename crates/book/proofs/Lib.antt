@@ -11,6 +11,8 @@ pub mod Periods
 pub mod Places
 pub mod Rows
 pub mod Same
+pub mod Searches
 pub mod Tables
 pub mod Tasks
 pub mod Turns
+pub mod Zips

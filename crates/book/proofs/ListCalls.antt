@@ -1,57 +1,61 @@
 -- What the calls on a class list answer, from what their loops gave.
-use Rattle.std.proofs.Common.{◌≡◌, ℕ, suc, ◌<◌, ◌≤◌, true, ltb, List, [], ◌∷◌, ◌++◌, map, length, take, drop, Ok, Err, sym, refl, ap, ◌∙◌, inl, inr, arith}
+use Rattle.std.proofs.Common.{◌≡◌, ℕ, ◌≤◌, true, false, ltb, List, [], ◌∷◌, ◌++◌, length, take, drop, Bool, not, Ok, Err, sym, refl, ap, ◌∙◌, inl, inr, arith}
 use Rattle.std.proofs.lemmas.List.{drop_at, length-append, length-drop, length-map, take_at}
-use Rattle.std.proofs.lemmas.Bool.{and_parts, cases_Bool, le-ltb, lt-ltb}
-use Rattle.book.specs.Books.{records_in}
+use Rattle.std.proofs.lemmas.Bool.{cases_Bool, le-ltb, ltb-false}
+use Rattle.std.proofs.lemmas.Slice.Zip.{length-zip}
+use Rattle.std.specs.List.{zip}
 use Rattle.book.specs.Checks.{Put, judged, short_check}
 use Rattle.book.specs.Classes.{chosen_times, list_check, names}
-use Rattle.book.specs.Held.{record_of}
 use Rattle.book.specs.Ledger.{TaskRecord}
-use Rattle.book.specs.declared.book.Book.{Book}
+use Rattle.book.specs.declared.refusal.Refusal.{Refusal}
 use Rattle.book.specs.declared.refusal.Refusal.TheVariants as r
-use Rattle.book.specs.declared.task.Task.{Task}
 use Rattle.book.proofs.ClassLists.{names_long}
-use Rattle.book.proofs.Places.{records_long}
-
--- a list that the check lets pass names a class of each row
-pub list_passes : (ts : List TaskRecord) (cs : List ℕ) (u : Unit {0}) → Ok u ≡ judged (list_check ts cs ∷ []) tt → names ts cs ≡ true
-list_passes ts cs u e =
-    elim (cases_Bool (names ts cs)) [
-      | inl yes-named ↦ yes-named
-      | inr named ↦
-          let f : judged {A = Unit {0}} (list_check ts cs ∷ []) tt ≡ Err r.List = rw named in
-          let z : ◌≡◌ {A = ℕ} 0 1 = cc in absurd (omega arith)
-    ]
-
-pub few_classes : (b : Book) (cs : List ℕ) → names (records_in b.table) cs ≡ true → length cs ≤ 16
-few_classes b cs e = omega (arith, names_long (records_in b.table) cs e, records_long b.table, b.table.few)
 
 -- one time for each class
 pub chosen_named : (ts : List TaskRecord) (cs : List ℕ) → names ts cs ≡ true → length (chosen_times ts cs) ≡ length cs
-chosen_named [] [] e = refl
-chosen_named [] (c ∷ cs) e = let z : ◌≡◌ {A = ℕ} 0 1 = cc in absurd (omega arith)
-chosen_named (t ∷ ts) [] e = refl
-chosen_named (t ∷ ts) (c ∷ cs) e = ap suc (chosen_named ts cs (and_parts (ltb c (length t.times)) (names ts cs) e).1)
+chosen_named ts cs e = length-map (zip ts cs) _ ∙ length-zip ts cs ∙ omega (arith, names_long ts cs e)
 
--- a list put into the front of a buffer, or refused for want of room
-module _ {X : Type 0} (ts : List TaskRecord) (cs : List ℕ) (out buffer : List X) (named : names ts cs ≡ true) where
-  pub put_short : length buffer < length out → judged (list_check ts cs ∷ short_check buffer out ∷ []) out ≡ Err r.Short
-  put_short lt = rw (named, lt-ltb (length buffer) (length out) lt)
+-- what is done where neither check applies changes no refusal
+other_done : {A B : Type 0} (named short : Bool) (a : A) (b : B) (e : Refusal) → judged ((not named, r.List) ∷ (short, r.Short) ∷ []) a ≡ Err e
+    → judged ((not named, r.List) ∷ (short, r.Short) ∷ []) b ≡ Err e
+other_done true true a b e h = cc
+other_done true false a b e h = let z : ◌≡◌ {A = ℕ} 0 1 = cc in absurd (omega arith)
+other_done false short a b e h = cc
 
-  pub put_done : (now : List X) (n : ℕ) → length out ≡ n → n ≤ length buffer → now ≡ out ++ drop n buffer
-      → Put buffer now (judged (list_check ts cs ∷ short_check buffer out ∷ []) out) (Ok n)
-  put_done now n long le e =
-      let fits : judged (list_check ts cs ∷ short_check buffer out ∷ []) out ≡ Ok out = rw (named, le-ltb (length buffer) (length out) (omega arith)) in (
-        fits ∙ ap Ok (sym (ap (take n) e ∙ take_at out (drop n buffer) n long)),
-        omega (arith, ap length e, length-append out (drop n buffer), length-drop n buffer),
-        ap (drop n) e ∙ drop_at out (drop n buffer) n long,
+neither : {A : Type 0} (named short : Bool) (a x : A) → judged ((not named, r.List) ∷ (short, r.Short) ∷ []) a ≡ Ok x → (named ≡ true) × ((short ≡ false) × (x ≡ a))
+neither true true a x h = let z : ◌≡◌ {A = ℕ} 0 1 = cc in absurd (omega arith)
+neither true false a x h = (refl, (refl, cc))
+neither false short a x h = let z : ◌≡◌ {A = ℕ} 0 1 = cc in absurd (omega arith)
+
+-- the times of a list's classes are refused as the list is, and need as much room
+module _ (ts : List TaskRecord) (cs : List ℕ) {X : Type 0} (buffer : List X) where
+  pub times_refused : (e : Refusal) → judged (list_check ts cs ∷ short_check buffer cs ∷ []) (length cs) ≡ Err e
+      → judged (list_check ts cs ∷ short_check buffer (chosen_times ts cs) ∷ []) (chosen_times ts cs) ≡ Err e
+  times_refused e h =
+      elim (cases_Bool (names ts cs)) [
+        | inl named ↦
+            ap (λ n. judged (list_check ts cs ∷ (ltb (length buffer) n, r.Short) ∷ []) (chosen_times ts cs)) (chosen_named ts cs named)
+            ∙ other_done (names ts cs) (ltb (length buffer) (length cs)) (length cs) (chosen_times ts cs) e h
+        | inr unnamed ↦
+            let f : judged (list_check ts cs ∷ short_check buffer cs ∷ []) (length cs) ≡ Err r.List = rw unnamed in
+            let g : judged (list_check ts cs ∷ short_check buffer (chosen_times ts cs) ∷ []) (chosen_times ts cs) ≡ Err r.List = rw unnamed in
+            cc
+      ]
+
+  pub list_passed : (n : ℕ) → judged (list_check ts cs ∷ short_check buffer cs ∷ []) (length cs) ≡ Ok n → (names ts cs ≡ true) × ((n ≡ length cs) × (length cs ≤ length buffer))
+  list_passed n h =
+      let passed = neither (names ts cs) (ltb (length buffer) (length cs)) (length cs) n h in
+      (passed.0, (passed.1.1, ltb-false (length buffer) (length cs) passed.1.0))
+
+  -- the times in front of the buffer, and what lay behind them
+  pub times_put : (now : List ℕ) (n : ℕ) (old : List ℕ) → names ts cs ≡ true → n ≡ length cs → length cs ≤ length old → now ≡ chosen_times ts cs ++ drop (length cs) old
+      → Put old now (judged (list_check ts cs ∷ short_check old (chosen_times ts cs) ∷ []) (chosen_times ts cs)) (Ok n)
+  times_put now n old named is le e =
+      let out : List ℕ = chosen_times ts cs in
+      let long : length out ≡ n = chosen_named ts cs named ∙ sym is in
+      let now_is : now ≡ out ++ drop n old = e ∙ (λ j. out ++ drop (sym is j) old) in
+      let fits : judged (list_check ts cs ∷ short_check old out ∷ []) out ≡ Ok out = rw (named, le-ltb (length old) (length out) (omega arith)) in (
+        fits ∙ ap Ok (sym (ap (take n) now_is ∙ take_at out (drop n old) n long)),
+        omega (arith, ap length now_is, length-append out (drop n old), length-drop n old),
+        ap (drop n) now_is ∙ drop_at out (drop n old) n long,
       )
-
--- the slice of tasks that a book lends
-module _ (b : Book) (tasks : List Task) (cs : List ℕ) (value : map record_of tasks ≡ records_in b.table) (named : names (records_in b.table) cs ≡ true) where
-  pub lent_long : length tasks ≡ length cs
-  lent_long = sym (length-map tasks record_of) ∙ ap length value ∙ sym (names_long (records_in b.table) cs named)
-
-  pub lent_times : (buffer now : List ℕ) → now ≡ chosen_times (map record_of tasks) cs ++ drop (length tasks) buffer
-      → now ≡ chosen_times (records_in b.table) cs ++ drop (length cs) buffer
-  lent_times buffer now e = e ∙ (λ j. chosen_times (value j) cs ++ drop (lent_long j) buffer)

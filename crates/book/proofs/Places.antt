@@ -1,7 +1,9 @@
 -- Places in an ascending table, and what the ledger's list says of them.
-use Rattle.std.proofs.Common.{◌≡◌, ℕ, zero, suc, ◌+◌, ◌-◌, ◌<◌, ◌≤◌, true, false, eqb, List, [], ◌∷◌, map, length, get_or, take, Ok, Err, refl, ap, ◌∙◌, subst, inl, inr, arith}
-use Rattle.std.specs.List.{insert}
-use Rattle.std.proofs.lemmas.List.{length-map, length-take-le, get_or-map, get_or-take}
+use Rattle.std.proofs.Common.{◌≡◌, ℕ, zero, suc, ◌+◌, ◌-◌, ◌<◌, ◌≤◌, Bool, true, false, eqb, ltb, IsTrue, List, [], ◌∷◌, map, length, get_or, take, Some, None, Option, Ok, Err, sym, refl, ap, ◌∙◌, subst, inl, inr, arith}
+use denote.Ref.{Bor}
+use Rattle.std.specs.List.{insert, slice_get}
+use Rattle.std.specs.Option.{MatchOption, option_copied}
+use Rattle.std.proofs.lemmas.List.{length-map, length-take-le}
 use Rattle.std.proofs.lemmas.Bool.{eq-eqb, ne_eqb, lt-ltb, le-ltb, or_left, or_right, or_from, cases_lt, cases_eq}
 use Rattle.book.specs.Books.{records_in}
 use Rattle.book.specs.Entering.{taken, entered, last_number}
@@ -21,12 +23,6 @@ numbers_long t = length-map (take t.count t.tasks) number_in ∙ long t
 
 pub records_long : (t : Table) → length (records_in t) ≡ t.count
 records_long t = length-map (take t.count t.tasks) record_of ∙ long t
-
--- the number at a place is that of the task in the slot
-pub slot_number : (t : Table) (i : ℕ) (d : Task) → i < t.count → number_at t i ≡ (get_or t.tasks i d).number
-slot_number t i d h =
-    let inside : i < length (take t.count t.tasks) = omega (arith, long t) in
-    get_or-map number_in (take t.count t.tasks) i d 0 inside ∙ ap number_in (get_or-take t.count t.tasks i d h)
 
 -- in an ascending list a later number is larger
 ascends_by : (xs : List ℕ) (i m : ℕ) → Ascending xs → i + suc m < length xs → get_or xs i 0 < get_or xs (i + suc m) 0
@@ -106,3 +102,16 @@ behind_last t n lt = (
       ]),
   λ h. omega arith,
 )
+
+-- the last task, if there is one, has the last number
+last_number_is : (xs : List Task) (o : Option Task) → o ≡ slice_get xs (length xs - 1) → MatchOption o (last_number (map record_of xs) ≡ 0) (λ t. last_number (map record_of xs) ≡ t.number)
+last_number_is [] o e = rw e refl
+last_number_is (x ∷ []) o e = rw e refl
+last_number_is (x ∷ y ∷ ys) o e =
+    let step : length (x ∷ y ∷ ys) - 1 ≡ suc (length (y ∷ ys) - 1) = omega arith in
+    last_number_is (y ∷ ys) o (e ∙ ap (slice_get (x ∷ y ∷ ys)) step)
+
+pub behind_all : (xs : List Task) (n : ℕ) (r : Option (Bor Task)) (b : Bool) (P : Bor Task → Type 0) → option_copied r ≡ slice_get xs (length xs - 1) → 1 ≤ n
+    → MatchOption r (IsTrue b) P → ((x : Bor Task) → P x → b ≡ ltb x.now.number n) → b ≡ ltb (last_number (map record_of xs)) n
+behind_all xs n None b P e one h at = h ∙ sym (lt-ltb (last_number (map record_of xs)) n (omega (arith, last_number_is xs None e)))
+behind_all xs n (Some x) b P e one h at = at x h ∙ ap (λ k. ltb k n) (sym (last_number_is xs (Some x.now) e))

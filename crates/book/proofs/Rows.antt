@@ -1,31 +1,19 @@
 -- The checks on a row, read place by place, and a row with one time changed.
-use Rattle.std.proofs.Common.{◌≡◌, ℕ, zero, suc, ◌+◌, ◌-◌, ◌<◌, ◌≤◌, Bool, true, false, cond, ltb, List, [], ◌∷◌, ◌++◌, length, get_or, take, drop, set, replicate, Ok, Err, sym, refl, ap, ◌∙◌, subst, inl, inr, add-one, arith}
-use Rattle.std.proofs.lemmas.List.{get_or-set_same, get_or-set_other, get_or_append_left, get_or-take, take_at, length-append, length-drop, length-take-le, length-set, drop_at, drop-replicate}
-use Rattle.std.proofs.lemmas.Bool.{lt-ltb, le-ltb, lt-leb, or_left, or_right, or_from, or_parts, ltb-false, cases_eq}
+use Rattle.std.proofs.Common.{◌≡◌, ℕ, zero, suc, ◌+◌, ◌-◌, ◌<◌, ◌≤◌, Bool, true, false, not, cond, leb, ltb, List, [], ◌∷◌, ◌++◌, length, get_or, take, drop, set, replicate, Ok, Err, sym, refl, ap, ◌∙◌, subst, add-one, arith}
+use Rattle.std.proofs.lemmas.List.{get_or-set_same, get_or-set_other, get_or_append_left, get_or-take, length-append, length-drop, length-take-le, length-set, drop_at, drop-replicate}
+use Rattle.std.proofs.lemmas.Bool.{lt-ltb, le-ltb, leb-false, leb-true, lt-leb, or_left, or_right, or_from, or_parts, ltb-false, cases_eq}
+use Rattle.std.specs.List.{IsAllAdjacentAnswer}
 use Rattle.book.specs.Rules.{Within, Falling}
 use Rattle.book.specs.Checks.{outside, judged}
-use Rattle.book.specs.Entering.{any_outside, rises, rises_after, row_checks}
+use Rattle.book.specs.Entering.{any_outside, rises, rises_after}
 use Rattle.book.specs.Amending.{amend_checks}
 use Rattle.book.specs.declared.refusal.Refusal.TheVariants as r
-
--- below the range, above it, in it
-pub outside_low : (l h x : ℕ) → x < l → outside l h x ≡ true
-outside_low l h x p = or_left (ltb x l) (ltb h x) (lt-ltb x l p)
-
-pub outside_high : (l h x : ℕ) → h < x → outside l h x ≡ true
-outside_high l h x p = or_right (ltb x l) (ltb h x) (lt-ltb h x p)
 
 pub outside_not : (l h x : ℕ) → l ≤ x → x ≤ h → outside l h x ≡ false
 outside_not l h x p q = or_from (ltb x l) (ltb h x) (le-ltb x l p) (le-ltb h x q)
 
 pub inside_from : (l h x : ℕ) → outside l h x ≡ false → (l ≤ x) × (x ≤ h)
 inside_from l h x e = let p = or_parts (ltb x l) (ltb h x) e in (ltb-false x l p.0, ltb-false h x p.1)
-
--- one time outside its range is enough
-pub any_outside_at : (xs : List ℕ) (k : ℕ) → k < length xs → outside 1 1000000 (get_or xs k 0) ≡ true → any_outside xs ≡ true
-any_outside_at [] k lt e = absurd (omega arith)
-any_outside_at (x ∷ xs) zero lt e = or_left (outside 1 1000000 x) (any_outside xs) e
-any_outside_at (x ∷ xs) (suc k) lt e = or_right (outside 1 1000000 x) (any_outside xs) (any_outside_at xs k (omega arith) e)
 
 -- no time is outside exactly where each is within
 pub within_not : (xs : List ℕ) → Within xs (length xs) → any_outside xs ≡ false
@@ -49,19 +37,6 @@ pub rises_at : (xs : List ℕ) (k : ℕ) → k + 1 < length xs → get_or xs k 0
 rises_at [] k lt h = absurd (omega arith)
 rises_at (x ∷ xs) k lt h = rises_after_at x xs k (omega arith) (rw add-one at h)
 
-pub rises_before : (xs : List ℕ) (i : ℕ) → 1 ≤ i → i < length xs → get_or xs (i - 1) 0 < get_or xs i 0 → rises xs ≡ true
-rises_before xs i pos lt h =
-    let step : i - 1 + 1 ≡ i = omega arith in
-    rises_at xs (i - 1) (omega arith) (subst (λ j. get_or xs (i - 1) 0 < get_or xs j 0) (sym step) h)
-
--- a falling front of a row, one place longer
-pub falling_more : (xs : List ℕ) (i : ℕ) → 1 ≤ i → Falling xs i → get_or xs i 0 ≤ get_or xs (i - 1) 0 → Falling xs (i + 1)
-falling_more xs i pos f h k lt =
-    elim (cases_eq (k + 1) i) [
-      | inl e ↦ let b : k ≡ i - 1 = omega arith in subst (λ j. get_or xs (k + 1) 0 ≤ get_or xs j 0) (sym b) (subst (λ j. get_or xs j 0 ≤ get_or xs (i - 1) 0) (sym e) h)
-      | inr e ↦ f k (omega arith)
-    ]
-
 -- no time rises exactly where the row is falling
 falls_after : (b : ℕ) (xs : List ℕ) → ((k : ℕ) → k < length xs → get_or xs k 0 ≤ get_or (b ∷ xs) k 0) → rises_after b xs ≡ false
 falls_after b [] f = refl
@@ -81,6 +56,11 @@ pub falling_from : (xs : List ℕ) → rises xs ≡ false → Falling xs (length
 falling_from [] e k h = absurd (omega arith)
 falling_from (x ∷ xs) e k h = rw add-one (after_falls x xs e k (omega arith))
 
+-- a row is sorted downwards, or some time rises
+pub falls_or_rises : (xs : List ℕ) (r : Bool) → IsAllAdjacentAnswer (λ x y b. b ≡ leb y x) xs r → not r ≡ rises xs
+falls_or_rises xs true h = sym (falling_not xs (λ k lt. leb-true (get_or xs (k + 1) 0) (get_or xs k 0) (sym (h k 0 lt))))
+falls_or_rises xs false h = sym (rises_at xs h.0 h.1 (leb-false (get_or xs (h.0 + 1) 0) (get_or xs h.0 0) (sym (h.2 0))))
+
 -- times in front of other slots keep the rules that they keep by themselves
 module _ (ts front zs : List ℕ) (e : front ≡ ts) where
   pub front_within : any_outside ts ≡ false → Within (front ++ zs) (length ts)
@@ -91,15 +71,8 @@ module _ (ts front zs : List ℕ) (e : front ≡ ts) where
       (λ k lt. rw (get_or_append_left ts zs 0 (k + 1) lt)
       (let less : k < length ts = omega arith in rw (get_or_append_left ts zs 0 k less) (falling_from ts h k lt)))
 
-  pub front_taken : take (length ts) (front ++ zs) ≡ ts
-  front_taken = ap (λ f. take (length ts) (f ++ zs)) e ∙ take_at ts zs (length ts) refl
-
   pub front_spare : drop (length ts) (front ++ zs) ≡ zs
   front_spare = ap (λ f. drop (length ts) (f ++ zs)) e ∙ drop_at ts zs (length ts) refl
-
--- one time put into a row
-pub within_set : (xs : List ℕ) (n i y : ℕ) → i < length xs → 1 ≤ y → y ≤ 1000000 → Within xs n → Within (set xs i y) n
-within_set xs n i y lt lo hi w k h = grind (arith, get_or-set_same, get_or-set_other, cases_eq k i, w k h)
 
 pub falling_set : (xs : List ℕ) (n i y : ℕ) → i < length xs → (0 < i → y ≤ get_or xs (i - 1) 0) → (i + 1 < n → get_or xs (i + 1) 0 ≤ y)
     → Falling xs n → Falling (set xs i y) n
@@ -167,17 +140,10 @@ module _ (xs : List ℕ) (n i y : ℕ) (le : n ≤ length xs) where
       amend_by done false lt lo hi (ap rises (sym (take_set_in n xs i y)) ∙ falling_not (take n (set xs i y)) keeps)
 
 -- the slots behind the times: as many ones as are left of eleven
-pub front_long : (ts front : List ℕ) → front ≡ ts → length ts ≤ 11 → length (front ++ drop (length ts - 0) (replicate 11 1)) ≡ 11
+pub front_long : (ts front : List ℕ) → front ≡ ts → length ts ≤ 11 → length (front ++ drop (length ts) (replicate 11 1)) ≡ 11
 front_long ts front e h =
     let ones : List ℕ = replicate 11 1 in
-    length-append front (drop (length ts - 0) ones) ∙ omega (arith, ap length e, length-drop (length ts - 0) ones)
+    length-append front (drop (length ts) ones) ∙ omega (arith, ap length e, length-drop (length ts) ones)
 
-pub front_ones : (ts front : List ℕ) → front ≡ ts → drop (length ts) (front ++ drop (length ts - 0) (replicate 11 1)) ≡ replicate (11 - length ts) 1
-front_ones ts front e =
-    let ones : List ℕ = replicate 11 1 in
-    let zero_less : length ts - 0 ≡ length ts = omega arith in
-    front_spare ts front (drop (length ts - 0) ones) e ∙ ap (λ k. drop k ones) zero_less ∙ drop-replicate (length ts) 11 1
-
--- a row that passes every check
-pub row_passes : (ts xs : List ℕ) → 1 ≤ length ts → length ts ≤ 11 → any_outside ts ≡ false → rises ts ≡ false → xs ≡ ts → judged (row_checks ts) ts ≡ Ok xs
-row_passes ts xs p q o f e = rw (outside_not 1 11 (length ts) p q, o, f) (ap Ok (sym e))
+pub front_ones : (ts front : List ℕ) → front ≡ ts → drop (length ts) (front ++ drop (length ts) (replicate 11 1)) ≡ replicate (11 - length ts) 1
+front_ones ts front e = front_spare ts front (drop (length ts) (replicate 11 1)) e ∙ drop-replicate (length ts) 11 1

@@ -1,12 +1,11 @@
 -- What a table answers where a task is put in, from what its slots then hold.
-use Rattle.std.proofs.Common.{◌≡◌, ℕ, ◌<◌, ◌≤◌, List, [], ◌∷◌, ◌++◌, map, length, take, Ok, Err, Result, sym, refl, ap, ◌∙◌, subst, arith}
+use Rattle.std.proofs.Common.{◌≡◌, ℕ, ◌<◌, ◌≤◌, List, [], ◌∷◌, map, length, take, Ok, Err, Result, sym, refl, ap, ◌∙◌, subst, arith}
 use Rattle.std.specs.List.{insert, remove}
-use Rattle.std.proofs.lemmas.List.{take_all, drop_all}
-use Rattle.std.proofs.lemmas.Bool.{lt-leb, le-leb, lt-ltb, le-ltb}
+use Rattle.std.proofs.lemmas.Bool.{lt-leb, lt-ltb, le-ltb}
 use Rattle.book.specs.Books.{records_in}
 use Rattle.book.specs.Checks.{Did, judged}
 use Rattle.book.specs.Divisors.{IsLcm}
-use Rattle.book.specs.Entering.{room_checks, enter_among, append_last, last_number}
+use Rattle.book.specs.Entering.{room_checks, enter_among}
 use Rattle.book.specs.Held.{number_in, numbers, period_in, record_of}
 use Rattle.book.specs.Hyperperiod.{hyperperiod}
 use Rattle.book.specs.Ledger.{period_of}
@@ -82,19 +81,4 @@ table_entered old new task i res f d =
     let checks = room_checks (record_of task) (records_in old) in
     let e : judged checks (insert (records_in old) i (record_of task)) ≡ enter_among (record_of task) (records_in old) =
     ap (judged checks) (entered_between old i (record_of task) f) ∙ sym (rw (taken_nowhere old task.number i f)) in
-    subst (λ answer. Did records_in old new answer res) e d
-
-pub append_order : (t : Table) (task : Task) → task.number ≤ last_number (records_in t) → append_last (record_of task) (records_in t) ≡ Err r.Order
-append_order t task le = rw (le-leb task.number (last_number (records_in t)) le)
-
-pub table_appended : (old new : Table) (task : Task) (res : Result (Unit {0}) Refusal) → last_number (records_in old) < task.number
-    → Did records_in old new (judged (room_checks (record_of task) (records_in old)) (insert (records_in old) old.count (record_of task))) res
-    → Did records_in old new (append_last (record_of task) (records_in old)) res
-table_appended old new task res lt d =
-    let checks = room_checks (record_of task) (records_in old) in
-    let size : length (records_in old) ≤ old.count = omega (arith, records_long old) in
-    let behind : insert (records_in old) old.count (record_of task) ≡ records_in old ++ record_of task ∷ [] =
-    (λ j. take_all old.count (records_in old) size j ++ record_of task ∷ drop_all old.count (records_in old) size j) in
-    let e : judged checks (insert (records_in old) old.count (record_of task)) ≡ append_last (record_of task) (records_in old) =
-    ap (judged checks) behind ∙ sym (rw (lt-leb task.number (last_number (records_in old)) lt)) in
     subst (λ answer. Did records_in old new answer res) e d

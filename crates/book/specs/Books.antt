@@ -1,18 +1,23 @@
 -- What a book holds, and what each call that changes one answers.
-use Rattle.std.specs.Prelude.{ℕ, List, [], ◌∷◌, Ok, Err, Result}
+use Rattle.std.specs.Prelude.{ℕ, List, [], ◌∷◌, map, take, Ok, Err, Result}
 use Rattle.book.specs.Amending.{amend_tasks, withdraw_tasks}
 use Rattle.book.specs.Checks.{judged, outside}
 use Rattle.book.specs.Entering.{append_tasks, enter_tasks}
-use Rattle.book.specs.Held.{records}
+use Rattle.book.specs.Held.{record_of}
 use Rattle.book.specs.Ledger.{Ledger, TaskRecord, begun}
 use Rattle.book.specs.declared.book.Book.{Book}
 use Rattle.book.specs.declared.refusal.Refusal.{Refusal}
 use Rattle.book.specs.declared.refusal.Refusal.TheVariants as r
 use Rattle.book.specs.declared.table.Table.{Table}
+use Rattle.book.specs.declared.task.Task.{Task}
+
+-- the tasks in a table: its used slots
+abbrev pub used : Table → List Task
+used t = take t.count t.tasks
 
 -- the records in a table
 abbrev pub records_in : Table → List TaskRecord
-records_in t = records t.tasks t.count
+records_in t = map record_of (used t)
 
 -- the ledger that a book stands for
 abbrev pub holds : Book → Ledger

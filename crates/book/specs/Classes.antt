@@ -1,5 +1,6 @@
 -- Partition classes, and what a class list asks of a book.
-use Rattle.std.specs.Prelude.{ℕ, ◌+◌, ◌*◌, ◌/◌, Bool, true, false, not, ◌&&◌, List, [], ◌∷◌, map, length, nat_lt, slice_index}
+use Rattle.std.specs.Prelude.{ℕ, ◌+◌, ◌*◌, ◌/◌, Bool, not, ◌&&◌, List, [], ◌∷◌, map, length, sum, ◌==◌, nat_lt, slice_index}
+use Rattle.std.specs.List.{list_all, zip}
 use Rattle.book.specs.Checks.{Check}
 use Rattle.book.specs.Hyperperiod.{hyperperiod}
 use Rattle.book.specs.Ledger.{TaskRecord, period_of}
@@ -19,14 +20,7 @@ time_at row class = slice_index row class
 
 -- the list names one class of each task's row, in the order of the tasks
 abbrev pub names : List TaskRecord → List ℕ → Bool
-names [] [] = true
-names [] (c ∷ cs) = false
-names (t ∷ ts) [] = false
-names (t ∷ ts) (c ∷ cs) = nat_lt c (length t.times) && names ts cs
-
-abbrev pub total : List ℕ → ℕ
-total [] = 0
-total (x ∷ xs) = x + total xs
+names ts cs = length cs == length ts && list_all (λ (p : TaskRecord × ℕ). nat_lt p.1 (length p.0.times)) (zip ts cs)
 
 -- the sets that the partitions of the list take
 abbrev pub sizes : List ℕ → List ℕ
@@ -34,9 +28,7 @@ sizes classes = map class_size classes
 
 -- the execution times that the list's classes give
 abbrev pub chosen_times : List TaskRecord → List ℕ → List ℕ
-chosen_times [] cs = []
-chosen_times (t ∷ ts) [] = []
-chosen_times (t ∷ ts) (c ∷ cs) = time_at t.times c ∷ chosen_times ts cs
+chosen_times ts cs = map (λ (p : TaskRecord × ℕ). time_at p.0.times p.1) (zip ts cs)
 
 -- the sum over the tasks of the releases in `cycle` ticks, cycle / period, times the execution time
 abbrev pub work_in : ℕ → List TaskRecord → List ℕ → ℕ
@@ -53,4 +45,4 @@ abbrev pub list_check : List TaskRecord → List ℕ → Check
 list_check ts cs = (not (names ts cs), r.List)
 
 abbrev pub fit_check : ℕ → List ℕ → Check
-fit_check cache cs = (nat_lt cache (total (sizes cs)), r.Overrun)
+fit_check cache cs = (nat_lt cache (sum (sizes cs)), r.Overrun)

@@ -1,5 +1,6 @@
 -- Entering a task: the checks in their order, and where the task goes.
 use Rattle.std.specs.Prelude.{ℕ, Bool, false, cond, ◌||◌, List, [], ◌∷◌, ◌++◌, map, length, Result, ◌==◌, nat_le, nat_lt}
+use Rattle.std.specs.List.{list_any}
 use Rattle.book.specs.Checks.{Check, judged, outside}
 use Rattle.book.specs.Hyperperiod.{hyperperiod}
 use Rattle.book.specs.Ledger.{TaskRecord, period_of}
@@ -8,8 +9,7 @@ use Rattle.book.specs.declared.refusal.Refusal.TheVariants as r
 
 -- some time is not 1 to 1,000,000
 abbrev pub any_outside : List ℕ → Bool
-any_outside [] = false
-any_outside (t ∷ ts) = outside 1 1000000 t || any_outside ts
+any_outside ts = list_any (outside 1 1000000) ts
 
 -- some time exceeds the one before it, the first of them being after `before`
 abbrev pub rises_after : ℕ → List ℕ → Bool

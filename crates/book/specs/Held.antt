@@ -1,6 +1,7 @@
 -- What a row, a task and the slots of a table stand for in the ledger.
 use Rattle.std.specs.Prelude.{◌≡◌, ℕ, List, [], ◌∷◌, map, take}
 use Rattle.book.specs.Ledger.{TaskRecord, task_record}
+use Rattle.book.specs.declared.new_task.NewTask.{NewTask}
 use Rattle.book.specs.declared.row.Row.{Row}
 use Rattle.book.specs.declared.task.Task.{Task}
 
@@ -10,6 +11,10 @@ times_in r = take r.count r.times
 
 abbrev pub record_of : Task → TaskRecord
 record_of t = task_record t.number t.period t.deadline (times_in t.row)
+
+-- the record that a task is given by, before any rule is checked
+abbrev pub given : NewTask → TaskRecord
+given new = task_record new.number new.period new.deadline new.times.now
 
 abbrev pub number_in : Task → ℕ
 number_in t = t.number

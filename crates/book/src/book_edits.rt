@@ -2,10 +2,12 @@
 ghost use Rattle.std.specs.Prelude.{◌≡◌};
 ghost use Rattle.book.specs.Books.{amend_answer, append_answer, enter_answer, holds, make_answer, withdraw_answer};
 ghost use Rattle.book.specs.Checks.{Did};
-ghost use Rattle.book.specs.Ledger.{begun, task_record};
+ghost use Rattle.book.specs.Held.{given};
+ghost use Rattle.book.specs.Ledger.{begun};
 
 use crate::book::Book;
 use crate::limits::LARGEST_CACHE;
+use crate::new_task::NewTask;
 use crate::refusal::Refusal;
 use crate::table::Table;
 use crate::task::Task;
@@ -25,7 +27,7 @@ impl Book {
     pub fn make(&mut self, size: u16) -> Result<(), Refusal>
         ensures { Did holds self.old self.new (make_answer size) result }
     {
-        if size < 1 || size > LARGEST_CACHE {
+        if !(1..=LARGEST_CACHE).contains(&size) {
             return Err(Refusal::Cache);
         }
         *self = Book {
@@ -36,32 +38,18 @@ impl Book {
     }
 
     /// Adds a task at the place of its number.
-    pub fn enter(
-        &mut self,
-        number: u8,
-        period: u32,
-        deadline: u32,
-        times: &[u32],
-    ) -> Result<(), Refusal>
-        ensures { Did holds self.old self.new
-            (enter_answer (holds self.old) (task_record number period deadline times.now)) result }
+    pub fn enter(&mut self, new: NewTask<'_>) -> Result<(), Refusal>
+        ensures { Did holds self.old self.new (enter_answer (holds self.old) (given new.entry)) result }
     {
-        let task = Task::new(number, period, deadline, times)?;
+        let task = Task::try_from(new)?;
         self.table.enter(task)
     }
 
     /// Adds a task behind the last one. It checks as `enter` does, but for the number, which has to be above all others.
-    pub fn append(
-        &mut self,
-        number: u8,
-        period: u32,
-        deadline: u32,
-        times: &[u32],
-    ) -> Result<(), Refusal>
-        ensures { Did holds self.old self.new
-            (append_answer (holds self.old) (task_record number period deadline times.now)) result }
+    pub fn append(&mut self, new: NewTask<'_>) -> Result<(), Refusal>
+        ensures { Did holds self.old self.new (append_answer (holds self.old) (given new.entry)) result }
     {
-        let task = Task::new(number, period, deadline, times)?;
+        let task = Task::try_from(new)?;
         self.table.append(task)
     }
 

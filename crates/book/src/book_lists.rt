@@ -1,11 +1,11 @@
 // What a class list asks of a book: whether it is one, what it takes of the cache, and the times and the work that it gives.
-ghost use Rattle.std.specs.Prelude.{◌≡◌, [], ◌∷◌};
+ghost use Rattle.std.specs.Prelude.{◌≡◌, [], ◌∷◌, length};
 ghost use Rattle.book.specs.Books.{holds};
 ghost use Rattle.book.specs.Checks.{Put, judged, short_check};
 ghost use Rattle.book.specs.Classes.{chosen_times, fit_check, list_check, sizes, work};
 
 use crate::book::Book;
-use crate::class_list::{names_each, put_sizes, put_times, total_size, total_work};
+use crate::class_list::{put_sizes, total_size};
 use crate::refusal::Refusal;
 
 impl Book {
@@ -13,7 +13,7 @@ impl Book {
     pub fn check_list(&self, classes: &[u8]) -> Result<(), Refusal>
         ensures { result ≡ judged (list_check (holds self.now).tasks classes.now ∷ []) tt }
     {
-        if names_each(self.tasks(), classes) {
+        if self.table.names_each(classes) {
             Ok(())
         } else {
             Err(Refusal::List)
@@ -37,6 +37,22 @@ impl Book {
         }
     }
 
+    /// How many values the list gives, if it is one and the buffer has room for them.
+    fn room_for<T>(&self, classes: &[u8], buffer: &[T]) -> Result<usize, Refusal>
+        ensures { result
+            ≡ judged
+            (list_check (holds self.now).tasks classes.now
+            ∷ short_check buffer.now classes.now
+            ∷ [])
+            (length classes.now) }
+    {
+        self.check_list(classes)?;
+        if buffer.len() < classes.len() {
+            return Err(Refusal::Short);
+        }
+        Ok(classes.len())
+    }
+
     /// Puts the sets of each partition into the front of the buffer, and returns their count.
     pub fn list_sizes(&self, classes: &[u8], buffer: &mut [u16]) -> Result<usize, Refusal>
         ensures { Put buffer.old buffer.new
@@ -47,11 +63,7 @@ impl Book {
             (sizes classes.now))
             result }
     {
-        self.check_list(classes)?;
-        let count = classes.len();
-        if buffer.len() < count {
-            return Err(Refusal::Short);
-        }
+        let count = self.room_for(classes, buffer)?;
         put_sizes(classes, buffer);
         Ok(count)
     }
@@ -66,12 +78,8 @@ impl Book {
             (chosen_times (holds self.now).tasks classes.now))
             result }
     {
-        self.check_list(classes)?;
-        let count = classes.len();
-        if buffer.len() < count {
-            return Err(Refusal::Short);
-        }
-        put_times(self.tasks(), classes, buffer);
+        let count = self.room_for(classes, buffer)?;
+        self.table.put_times(classes, buffer);
         Ok(count)
     }
 
@@ -82,6 +90,6 @@ impl Book {
             (work (holds self.now).tasks (chosen_times (holds self.now).tasks classes.now)) }
     {
         self.check_list(classes)?;
-        Ok(total_work(self.tasks(), classes, self.hyperperiod()))
+        Ok(self.table.total_work(classes))
     }
 }

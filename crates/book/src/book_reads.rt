@@ -29,7 +29,7 @@ impl Book {
         ensures value { map record_of result.now ≡ (holds self.now).tasks }
         ensures keeps { KeepsRules (holds self.now) }
     {
-        &self.table.tasks[0..self.table.count]
+        self.table.tasks()
     }
 
     /// The least common multiple of the periods, 1 where there is no task. It is kept, so asking costs nothing.

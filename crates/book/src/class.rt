@@ -5,26 +5,17 @@ ghost use Rattle.book.specs.Classes.{class_size};
 /// The sizes of the classes 0 to 10, in sets.
 const CLASS_SIZES: [u16; 11] = [0, 1, 2, 4, 8, 16, 32, 64, 128, 256, 512];
 
+/// The sets that a partition of this class takes; none past class 10.
+pub fn class_size(class: u8) -> Option<u16>
+    ensures { result ≡ (if nat_lt class 11 then Some (class_size class) else None) }
+{
+    CLASS_SIZES.get(usize::from(class)).copied()
+}
+
 /// The sets that a partition of this class takes, 0 past class 10.
 pub(crate) fn sets_of(class: u8) -> u16
     ensures value { result ≡ class_size class }
     ensures bound { result ≤ 512 }
 {
-    let class = class as usize;
-    if class < CLASS_SIZES.len() {
-        CLASS_SIZES[class]
-    } else {
-        0
-    }
-}
-
-/// The sets that a partition of this class takes; none past class 10.
-pub fn class_size(class: u8) -> Option<u16>
-    ensures { result ≡ (if nat_lt class 11 then Some (class_size class) else None) }
-{
-    if class < 11 {
-        Some(sets_of(class))
-    } else {
-        None
-    }
+    class_size(class).unwrap_or(0)
 }

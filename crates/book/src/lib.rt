@@ -9,6 +9,7 @@ pub mod class;
 mod class_list;
 pub mod limits;
 mod multiple;
+pub mod new_task;
 pub mod refusal;
 pub mod refusal_text;
 pub mod row;

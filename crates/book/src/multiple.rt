@@ -11,7 +11,9 @@ fn gcd(a: u64, b: u64) -> u64
 
 /// The least common multiple of one period and the hyperperiod of others. It fits: each factor is within its range.
 pub(crate) fn lcm(period: u64, whole: u64) -> u64
-    requires { (1 ≤ period) × ((period ≤ 1000000) × (whole ≤ 10000000000)) }
+    requires some { 1 ≤ period }
+    requires short { period ≤ 1000000 }
+    requires within { whole ≤ 10000000000 }
     ensures { IsLcm period whole result }
 {
     period / gcd(period, whole) * whole

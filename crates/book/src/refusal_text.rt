@@ -1,8 +1,10 @@
 // A refusal's number and word.
-ghost use Rattle.std.specs.Prelude.{◌≡◌};
+ghost use Rattle.std.specs.Prelude.{◌≡◌, Some};
 ghost use Rattle.book.specs.Refusals.{refusal_number, refusal_word};
 
 use crate::refusal::Refusal;
+use std::error::Error;
+use std::fmt;
 
 impl Refusal {
     /// The number that the refusal is known by, 1 to 25.
@@ -45,3 +47,13 @@ impl Refusal {
         }
     }
 }
+
+impl fmt::Display for Refusal {
+    ghost output = { λ refusal. Some (refusal_word refusal) };
+
+    fn fmt<W: fmt::Write>(&self, f: &mut fmt::Formatter<W>) -> fmt::Result {
+        f.write_str(self.word())
+    }
+}
+
+impl Error for Refusal {}

@@ -2,11 +2,14 @@
 ghost use Rattle.std.specs.Prelude.{◌≡◌, ◌-◌, ◌≤◌, length, drop, replicate};
 ghost use Rattle.book.specs.Rules.{Falling, Within};
 
+use crate::limits::MOST_TIMES;
+
 /// The worst-case execution times of a task by partition class: 1 to 11 times of 1 to 1,000,000 ticks, none above the one before it.
-/// The slots behind them hold 1, so that equal rows are equal values.
+/// The slots behind them hold 1, so that equal rows are equal values. It is an array with a count, since nothing on the
+/// controller's side takes memory from the heap.
 #[derive(Clone, Copy, PartialEq, Eq)]
 pub struct Row {
-    pub(crate) times: [u32; 11],
+    pub(crate) times: [u32; MOST_TIMES],
     pub(crate) count: usize,
     ghost sized: { (1 ≤ count) × (count ≤ 11) × (length times ≡ 11) },
     ghost within: { Within times count },

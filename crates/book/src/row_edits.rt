@@ -2,7 +2,7 @@
 ghost use Rattle.std.specs.Prelude.{◌≡◌, ◌≤◌, slice_index, slice_set};
 ghost use Rattle.book.specs.Amending.{amend_checks};
 ghost use Rattle.book.specs.Classes.{time_at};
-ghost use Rattle.book.specs.Checks.{Did, Made, judged};
+ghost use Rattle.book.specs.Checks.{Did, Made, judged, outside};
 ghost use Rattle.book.specs.Entering.{any_outside, rises, row_checks};
 ghost use Rattle.book.specs.Held.{times_in};
 
@@ -10,37 +10,36 @@ use crate::limits::{LONGEST_TIME, MOST_TIMES};
 use crate::refusal::Refusal;
 use crate::row::Row;
 
+/// Whether a time is not 1 to 1,000,000.
+fn is_outside(time: u32) -> bool
+    ensures { result ≡ outside 1 1000000 time }
+{
+    !(1..=LONGEST_TIME).contains(&time)
+}
+
 /// Whether some time is not 1 to 1,000,000.
 fn any_outside(times: &[u32]) -> bool
     ensures { result ≡ any_outside times.now }
 {
-    for time in times {
-        if *time < 1 || *time > LONGEST_TIME {
-            return true;
-        }
-    }
-    false
+    times.iter().any(|time| is_outside(*time))
 }
 
 /// Whether some time exceeds the one before it.
 fn rises(times: &[u32]) -> bool
     ensures { result ≡ rises times.now }
 {
-    for i in 1..times.len() {
-        if times[i] > times[i - 1] {
-            return true;
-        }
-    }
-    false
+    !times.is_sorted_by(|before, time| before >= time)
 }
 
-impl Row {
-    /// The row of these times, if they keep the rules of a row.
-    pub(crate) fn from_times(times: &[u32]) -> Result<Row, Refusal>
-        ensures { Made times_in (judged (row_checks times.now) times.now) result }
-    {
+/// The row of these times, if they keep the rules of a row.
+impl TryFrom<&[u32]> for Row {
+    type Error = Refusal;
+
+    ghost try_from_gives = { λ times row. Made times_in (judged (row_checks times.now) times.now) row };
+
+    fn try_from(times: &[u32]) -> Result<Row, Refusal> {
         let count = times.len();
-        if count < 1 || count > MOST_TIMES {
+        if !(1..=MOST_TIMES).contains(&count) {
             return Err(Refusal::Class);
         }
         if any_outside(times) {
@@ -49,20 +48,23 @@ impl Row {
         if rises(times) {
             return Err(Refusal::Rising);
         }
-        let mut slots = [1; 11];
-        slots[0..count].copy_from_slice(times);
+        let mut slots = [1; MOST_TIMES];
+        slots[..count].copy_from_slice(times);
         Ok(Row {
             times: slots,
             count,
         })
     }
+}
 
+impl Row {
     /// The row of one class with the time 1.
     pub(crate) fn blank() -> Row
-        ensures { (result.count ≡ 1) × (slice_index result.times 0 ≡ 1) }
+        ensures count { result.count ≡ 1 }
+        ensures time { slice_index result.times 0 ≡ 1 }
     {
         Row {
-            times: [1; 11],
+            times: [1; MOST_TIMES],
             count: 1,
         }
     }
@@ -79,12 +81,7 @@ impl Row {
         ensures value { result ≡ time_at (times_in self.now) class }
         ensures bound { result ≤ 1000000 }
     {
-        let class = class as usize;
-        if class < self.count {
-            self.times[class]
-        } else {
-            0
-        }
+        self.times().get(usize::from(class)).copied().unwrap_or(0)
     }
 
     /// Puts `time` at `class`, if the row as it would be keeps the rules.
@@ -95,7 +92,7 @@ impl Row {
         if class >= self.count {
             return Err(Refusal::Class);
         }
-        if time < 1 || time > LONGEST_TIME {
+        if is_outside(time) {
             return Err(Refusal::Time);
         }
         if class > 0 && time > self.times[class - 1] {

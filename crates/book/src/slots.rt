@@ -1,6 +1,7 @@
-// The slots of a table: a task put in among the first of them, and one taken out.
+// The slots of a table: a task put in among the first of them, and one taken out. The count of those used is a parameter, since the
+// check has no rule yet for a part of an array that is lent out of a struct with ghost fields.
 ghost use Rattle.std.specs.Prelude.{◌≡◌, ◌+◌, ◌-◌, ◌<◌, ◌≤◌, ◌∷◌, map, length, take, drop};
-ghost use Rattle.book.specs.Held.{blank, fields, period_in, periods};
+ghost use Rattle.book.specs.Held.{blank, fields, period_in};
 ghost use Rattle.book.specs.Hyperperiod.{hyperperiod};
 ghost use Rattle.std.specs.List.{insert, remove};
 
@@ -9,7 +10,8 @@ use crate::task::Task;
 
 /// Puts `task` at the place `at` among the first `count` slots; what stood there and after it moves one on.
 pub(crate) fn insert_at(tasks: &mut [Task], count: usize, at: usize, task: Task)
-    requires { (count < length tasks.old) × (at ≤ count) }
+    requires room { count < length tasks.old }
+    requires inside { at ≤ count }
     ensures front { take (count + 1) tasks.new ≡ insert (take count tasks.old) at task }
     ensures rest { drop (count + 1) tasks.new ≡ drop (count + 1) tasks.old }
 {
@@ -18,8 +20,9 @@ pub(crate) fn insert_at(tasks: &mut [Task], count: usize, at: usize, task: Task)
 }
 
 /// Takes away what stands at the place `at` of the first `count` slots; the last of them is then unused.
-fn remove_at(tasks: &mut [Task], count: usize, at: usize)
-    requires { (count ≤ length tasks.old) × (at < count) }
+pub(crate) fn remove_at(tasks: &mut [Task], count: usize, at: usize)
+    requires room { count ≤ length tasks.old }
+    requires inside { at < count }
     ensures front { take (count - 1) tasks.new ≡ remove (take count tasks.old) at }
     ensures rest { map fields (drop (count - 1) tasks.new) ≡ blank ∷ map fields (drop count tasks.old) }
 {
@@ -29,7 +32,7 @@ fn remove_at(tasks: &mut [Task], count: usize, at: usize)
 
 /// The hyperperiod of the tasks: the least common multiple folded over their periods. The hyperperiod of a front never
 /// exceeds that of the whole, so each step stays within range.
-fn hyperperiod(tasks: &[Task]) -> u64
+pub(crate) fn hyperperiod(tasks: &[Task]) -> u64
     requires { hyperperiod (map period_in tasks.now) ≤ 10000000000 }
     ensures { result ≡ hyperperiod (map period_in tasks.now) }
 {
@@ -38,17 +41,4 @@ fn hyperperiod(tasks: &[Task]) -> u64
         whole = lcm(task.period as u64, whole);
     }
     whole
-}
-
-/// Takes away what stands at the place `at`, and answers the hyperperiod of the tasks that are left.
-pub(crate) fn withdraw_at(tasks: &mut [Task], count: usize, at: usize) -> u64
-    requires within { (count ≤ length tasks.old) × (at < count) }
-    requires cyclic { hyperperiod (periods tasks.old count) ≤ 10000000000 }
-    ensures front { take (count - 1) tasks.new ≡ remove (take count tasks.old) at }
-    ensures rest { map fields (drop (count - 1) tasks.new) ≡ blank ∷ map fields (drop count tasks.old) }
-    ensures cycle { result ≡ hyperperiod (periods tasks.new (count - 1)) }
-    ensures within { result ≤ 10000000000 }
-{
-    remove_at(tasks, count, at);
-    hyperperiod(&tasks[0..count - 1])
 }

@@ -4,13 +4,15 @@ ghost use Rattle.book.specs.Held.{blank, fields, numbers, periods};
 ghost use Rattle.book.specs.Hyperperiod.{hyperperiod};
 ghost use Rattle.book.specs.Rules.{Ascending};
 
+use crate::limits::MOST_TASKS;
 use crate::task::Task;
 
 /// At most sixteen tasks in ascending order of number, and the least common multiple of their periods, at most 10,000,000,000.
-/// The slots behind the tasks hold one fixed task, so that equal tables are equal values.
+/// The slots behind the tasks hold one fixed task, so that equal tables are equal values. It is an array with a count, since
+/// nothing on the controller's side takes memory from the heap.
 #[derive(Clone, Copy, PartialEq, Eq)]
 pub(crate) struct Table {
-    pub(crate) tasks: [Task; 16],
+    pub(crate) tasks: [Task; MOST_TASKS],
     pub(crate) count: usize,
     pub(crate) cycle: u64,
     ghost few: { (count ≤ 16) × (length tasks ≡ 16) },

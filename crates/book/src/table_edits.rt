@@ -1,7 +1,7 @@
 // Entering, amending and withdrawing a task of a table.
-ghost use Rattle.std.specs.Prelude.{◌≡◌, []};
+ghost use Rattle.std.specs.Prelude.{◌≡◌, ◌≤◌, [], nat_lt};
 ghost use Rattle.book.specs.Amending.{amend_tasks, withdraw_tasks};
-ghost use Rattle.book.specs.Books.{records_in};
+ghost use Rattle.book.specs.Books.{records_in, used};
 ghost use Rattle.book.specs.Checks.{Did, judged};
 ghost use Rattle.book.specs.Entering.{append_last, enter_among, last_number, room_checks};
 ghost use Rattle.book.specs.Held.{record_of};
@@ -11,7 +11,7 @@ ghost use Rattle.std.specs.List.{insert};
 use crate::limits::{LONGEST_CYCLE, MOST_TASKS};
 use crate::multiple::lcm;
 use crate::refusal::Refusal;
-use crate::slots::{insert_at, withdraw_at};
+use crate::slots::{hyperperiod, insert_at, remove_at};
 use crate::table::Table;
 use crate::task::Task;
 
@@ -21,38 +21,33 @@ impl Table {
         ensures { records_in result ≡ [] }
     {
         Table {
-            tasks: [Task::blank(); 16],
+            tasks: [Task::blank(); MOST_TASKS],
             count: 0,
             cycle: 1,
         }
     }
 
-    /// The place of the task `number`, or else the place where it would go, as `binary_search` answers.
+    /// The tasks, in ascending order of number.
+    pub(crate) fn tasks(&self) -> &[Task]
+        ensures { result.now ≡ used self.now }
+    {
+        &self.tasks[..self.count]
+    }
+
+    /// The place of the task `number`, or else the place where it would go.
     fn find(&self, number: u8) -> Result<usize, usize>
         ensures { Found self.now number result }
     {
-        for i in 0..self.count {
-            let here = self.tasks[i].number;
-            if here == number {
-                return Ok(i);
-            }
-            if here > number {
-                return Err(i);
-            }
-        }
-        Err(self.count)
+        self.tasks()
+            .binary_search_by_key(&number, |task| task.number)
     }
 
-    /// The number of the last task, 0 where there is none.
-    fn last_number(&self) -> u8
-        ensures { result ≡ last_number (records_in self.now) }
+    /// Whether a task of this number would stand behind all others.
+    fn is_behind_all(&self, number: u8) -> bool
+        requires { 1 ≤ number }
+        ensures { result ≡ nat_lt (last_number (records_in self.now)) number }
     {
-        let count = self.count;
-        if count == 0 {
-            0
-        } else {
-            self.tasks[count - 1].number
-        }
+        self.tasks().last().is_none_or(|last| last.number < number)
     }
 
     /// Puts the task at a place, if there is room for it.
@@ -89,14 +84,15 @@ impl Table {
     pub(crate) fn append(&mut self, task: Task) -> Result<(), Refusal>
         ensures { Did records_in self.old self.new (append_last (record_of task) (records_in self.old)) result }
     {
-        if self.last_number() >= task.number {
+        if !self.is_behind_all(task.number) {
             return Err(Refusal::Order);
         }
         let count = self.count;
         self.insert(count, task)
     }
 
-    /// Puts `time` at `class` of the task `number`: one record of the array is lent to be changed.
+    /// Puts `time` at `class` of the task `number`: one record of the array is lent to be changed. It is lent by way of `tasks`,
+    /// since `self.tasks[at].amend(..)` is not proved yet.
     pub(crate) fn amend(&mut self, number: u8, class: usize, time: u32) -> Result<(), Refusal>
         ensures { Did records_in self.old self.new (amend_tasks number class time (records_in self.old)) result }
     {
@@ -115,9 +111,9 @@ impl Table {
             return Err(Refusal::Unknown);
         };
         let count = self.count;
-        let cycle = withdraw_at(&mut self.tasks, count, at);
+        remove_at(&mut self.tasks, count, at);
         self.count = count - 1;
-        self.cycle = cycle;
+        self.cycle = hyperperiod(&self.tasks[..count - 1]);
         Ok(())
     }
 }

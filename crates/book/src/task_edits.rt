@@ -3,43 +3,41 @@ ghost use Rattle.std.specs.Prelude.{◌≡◌};
 ghost use Rattle.book.specs.Amending.{amend_checks, with_time};
 ghost use Rattle.book.specs.Checks.{Did, Made, judged};
 ghost use Rattle.book.specs.Entering.{task_checks};
-ghost use Rattle.book.specs.Held.{Kept, blank, fields, record_of};
-ghost use Rattle.book.specs.Ledger.{task_record};
+ghost use Rattle.book.specs.Held.{Kept, blank, fields, given, record_of};
 
 use crate::limits::LONGEST_PERIOD;
+use crate::new_task::NewTask;
 use crate::refusal::Refusal;
 use crate::row::Row;
 use crate::task::Task;
 
-impl Task {
-    /// The task of these parts, if they keep the rules of a task.
-    pub(crate) fn new(
-        number: u8,
-        period: u32,
-        deadline: u32,
-        times: &[u32],
-    ) -> Result<Task, Refusal>
-        ensures { Made record_of
-            (judged (task_checks (task_record number period deadline times.now)) (task_record number period deadline times.now)) result }
-    {
-        if number == 0 {
+/// The task of these parts, if they keep the rules of a task.
+impl TryFrom<NewTask<'_>> for Task {
+    type Error = Refusal;
+
+    ghost try_from_gives = { λ new task. Made record_of (judged (task_checks (given new)) (given new)) task };
+
+    fn try_from(new: NewTask<'_>) -> Result<Task, Refusal> {
+        if new.number == 0 {
             return Err(Refusal::Number);
         }
-        if period < 1 || period > LONGEST_PERIOD {
+        if !(1..=LONGEST_PERIOD).contains(&new.period) {
             return Err(Refusal::Period);
         }
-        if deadline < 1 || deadline > period {
+        if !(1..=new.period).contains(&new.deadline) {
             return Err(Refusal::Deadline);
         }
-        let row = Row::from_times(times)?;
+        let row = Row::try_from(new.times)?;
         Ok(Task {
-            number,
-            period,
-            deadline,
+            number: new.number,
+            period: new.period,
+            deadline: new.deadline,
             row,
         })
     }
+}
 
+impl Task {
     /// The task that stands in an unused slot.
     pub(crate) fn blank() -> Task
         ensures { fields result ≡ blank }

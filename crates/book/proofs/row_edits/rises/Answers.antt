@@ -1,12 +1,10 @@
-use Rattle.std.proofs.Common.{sym, arith}
-use Rattle.book.proofs.Rows.{falling_more, falling_not, rises_before}
+use Rattle.std.proofs.Common.{nat_le, rules}
+use borrow.Author.Tests.{tests}
+use Rattle.std.proofs.lemmas.List.Sorted.{answers_always}
+use Rattle.book.proofs.Rows.{falls_or_rises}
 use Rattle.book.proofs.row_edits.rises.Goals as goal
 
-pub returns-then-times-i : goal.returns-then-times-i
-returns-then-times-i c = sym (rises_before c.args.times.now c.loop-i.i (omega arith) (omega arith) c.if-times-i.true)
-
-pub loop-i-preserved : goal.loop-i-preserved
-loop-i-preserved c = falling_more c.args.times.now c.loop-i.i (omega arith) c.loop-i.invariant c.if-times-i.false
-
 pub returns : goal.returns
-returns c = sym (falling_not c.args.times.now (λ k h. c.loop-i.invariant k (omega arith)))
+returns c =
+    falls_or_rises c.args.times.now c.is_sorted_by.result
+    (c.is_sorted_by.ensures.cases (λ x y. nat_le y x) (answers_always _ _ _ (λ f a r f' k. search (rules, tests))))

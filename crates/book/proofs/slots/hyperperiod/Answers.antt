@@ -1,7 +1,4 @@
-use Rattle.std.proofs.Common.{map, sym, ap, ◌∙◌, arith}
-use Rattle.std.proofs.lemmas.List.{take_all}
-use Rattle.book.specs.Held.{period_in}
-use Rattle.book.specs.Hyperperiod.{hyperperiod}
+use Rattle.std.proofs.Common.{sym, arith}
 use Rattle.book.proofs.Multiples.{hyperperiod_none}
 use Rattle.book.proofs.Periods.{period_front, period_more}
 use Rattle.book.proofs.slots.hyperperiod.Goals as goal
@@ -11,20 +8,14 @@ loop-task-init c = sym hyperperiod_none
 
 pub lcm-whole-requires : goal.lcm-whole-requires
 lcm-whole-requires c =
-    let t = c.task-item.result in (
-      omega (arith, t.timed),
-      (
-        omega (arith, t.timed),
-        omega (arith, c.loop-task.invariant, period_front c.args.tasks.now c.loop-task.task-index, c.requires),
-      ),
-    )
+    let t = c.task-item.result in
+    record {
+      some = omega (arith, t.timed);
+      short = omega (arith, t.timed);
+      within = omega (arith, c.loop-task.invariant, period_front c.args.tasks.now c.loop-task.task-index, c.requires);
+    }
 
 pub loop-task-preserved : goal.loop-task-preserved
 loop-task-preserved c =
     period_more c.args.tasks.now c.loop-task.task-index c.task-item.result c.loop-task.whole c.lcm-whole.result
     (omega arith) c.task-item.is c.loop-task.invariant c.lcm-whole.ensures
-
-pub returns : goal.returns
-returns c =
-    c.loop-task.invariant
-    ∙ ap (λ ts. hyperperiod (map period_in ts)) (take_all c.loop-task.task-index c.args.tasks.now (omega arith))

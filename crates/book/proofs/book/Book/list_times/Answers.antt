@@ -1,30 +1,26 @@
-use Rattle.std.proofs.Common.{refl, arith}
-use Rattle.book.specs.Books.{records_in}
-use Rattle.book.specs.Classes.{chosen_times}
-use Rattle.book.proofs.ListCalls.{chosen_named, lent_long, lent_times, list_passes, put_done, put_short}
+use Rattle.std.proofs.Common.{refl, sym, ◌∙◌}
+use Rattle.std.proofs.lemmas.List.{length-map}
+use Rattle.std.proofs.lemmas.Result.{err_from_is_err_and}
+use Rattle.book.specs.Books.{records_in, used}
+use Rattle.book.specs.Held.{record_of}
+use Rattle.book.proofs.ClassLists.{names_long}
+use Rattle.book.proofs.ListCalls.{list_passed, times_put, times_refused}
 use Rattle.book.proofs.book.Book.list_times.Goals as goal
 
-pub returns-then-buffer-count : goal.returns-then-buffer-count
-returns-then-buffer-count c =
-    let ts = records_in c.args.self.now.table in
-    let cs = c.args.classes.now in
-    let named = list_passes ts cs c.in_ok-check_list.field-0 c.in_ok-check_list.ensures in
-    (put_short ts cs (chosen_times ts cs) c.args.buffer.now named (omega (arith, chosen_named ts cs named)), refl)
+pub returns-in_err-count : goal.returns-in_err-count
+returns-in_err-count c =
+    let p = err_from_is_err_and c.from_residual.result c.from_residual.ensures.1 in
+    rw (p.1, p.2) (times_refused (records_in c.args.self.now.table) c.args.classes.now c.args.buffer.now _ (sym c.in_err-count.ensures), refl)
 
 pub put_times-requires : goal.put_times-requires
 put_times-requires c =
     let b = c.args.self.now in
-    let cs = c.args.classes.now in
-    let named = list_passes (records_in b.table) cs c.in_ok-check_list.field-0 c.in_ok-check_list.ensures in
-    let long = lent_long b c.tasks.result.now cs c.tasks.ensures.value named in
-    record { named = long; room = omega arith }
+    let passed = list_passed (records_in b.table) c.args.classes.now c.args.buffer.now c.in_ok-count.count (sym c.in_ok-count.ensures) in
+    record { named = sym (length-map (used b.table) record_of) ∙ sym (names_long (records_in b.table) c.args.classes.now passed.0); room = passed.1.1 }
 
 pub returns : goal.returns
 returns c =
-    let b = c.args.self.now in
-    let ts = records_in b.table in
+    let ts = records_in c.args.self.now.table in
     let cs = c.args.classes.now in
-    let named = list_passes ts cs c.in_ok-check_list.field-0 c.in_ok-check_list.ensures in
-    let value = c.tasks.ensures.value in
-    put_done ts cs (chosen_times ts cs) c.args.buffer.now named c.put_times.new.buffer _ (chosen_named ts cs named) (omega arith)
-    (lent_times b c.tasks.result.now cs value named c.args.buffer.now c.put_times.new.buffer c.put_times.ensures)
+    let passed = list_passed ts cs c.args.buffer.now c.in_ok-count.count (sym c.in_ok-count.ensures) in
+    times_put ts cs c.args.buffer.now c.put_times.new.buffer _ c.args.buffer.now passed.0 passed.1.0 passed.1.1 c.put_times.ensures

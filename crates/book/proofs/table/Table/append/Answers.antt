@@ -1,14 +1,12 @@
-use Rattle.std.proofs.Common.{refl, arith}
+use Rattle.std.proofs.Common.{◌≡◌, true, nat_lt, rules}
+use Rattle.std.proofs.lemmas.Bool.{ltb-true}
+use Rattle.book.specs.Books.{records_in}
+use Rattle.book.specs.Entering.{last_number}
 use Rattle.book.proofs.Places.{behind_last}
-use Rattle.book.proofs.Tables.{append_order, table_appended}
 use Rattle.book.proofs.table.Table.append.Goals as goal
 
-pub returns-then-last_number-task : goal.returns-then-last_number-task
-returns-then-last_number-task c = (append_order c.args.self.now c.args.task (omega (arith, c.last_number.ensures)), refl)
-
 pub insert-requires : goal.insert-requires
-insert-requires c = behind_last c.args.self.now c.args.task.number (omega (arith, c.last_number.ensures))
-
-pub returns : goal.returns
-returns c =
-    table_appended c.args.self.now c.insert.new.self c.args.task c.insert.result (omega (arith, c.last_number.ensures)) c.insert.ensures
+insert-requires c =
+    let t = c.args.self.now in
+    let yes-behind : nat_lt (last_number (records_in t)) c.args.task.number ≡ true = search rules in
+    behind_last t c.args.task.number (ltb-true (last_number (records_in t)) c.args.task.number yes-behind)
