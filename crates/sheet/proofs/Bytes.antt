@@ -1,5 +1,5 @@
 -- What is written as bytes is read back.
-use Rattle.std.proofs.Common.{◌≡◌, ℕ, zero, suc, ◌+◌, ◌*◌, ◌/◌, ◌%◌, ◌<◌, ◌≤◌, false, List, [], ◌∷◌, ◌++◌, length, get_or, sym, refl, arith}
+use Rattle.std.proofs.Common.{◌≡◌, ℕ, zero, suc, ◌+◌, ◌*◌, ◌/◌, ◌%◌, ◌<◌, ◌≤◌, false, List, [], ◌∷◌, ◌++◌, length, get_or, sym, refl, ap, arith}
 use native.Mathlib.Nat.{div-div-eq-div-mul}
 use Rattle.std.proofs.lemmas.List.{append_assoc}
 use Rattle.std.proofs.lemmas.Bool.{or_from, eq-eqb, not_from_true}
@@ -30,6 +30,10 @@ pub time_bytes_long : (ts : List ℕ) → length (time_bytes ts) ≡ 4 * length 
 time_bytes_long [] = refl
 time_bytes_long (t ∷ ts) = omega (arith, time_bytes_long ts)
 
+pub times_append : (ts us : List ℕ) → time_bytes (ts ++ us) ≡ time_bytes ts ++ time_bytes us
+times_append [] us = refl
+times_append (t ∷ ts) us = ap (λ zs. four_bytes t ++ zs) (times_append ts us)
+
 -- what follows the length byte is as long as it says
 pub body_long : (t : TaskRecord) → length (body_bytes t) ≡ 9 + 4 * length t.times
 body_long t = omega (arith, time_bytes_long t.times)
@@ -41,23 +45,6 @@ time_count_is k = omega arith
 -- the length byte of a row of 1 to 11 times is good
 pub good_length : (k : ℕ) → 1 ≤ k → k ≤ 11 → bad_length (9 + 4 * k) ≡ false
 good_length k p q = rw time_count_is (or_from _ _ (outside_not 1 11 k p q) (not_from_true _ (eq-eqb (9 + 4 * k) (9 + 4 * k) refl)))
-
--- four bytes are those of the number that they give
-pub four_of : (a b c d : ℕ) → a < 256 → b < 256 → c < 256 → d < 256 → four_bytes (a * 16777216 + b * 65536 + c * 256 + d) ≡ a ∷ b ∷ c ∷ d ∷ []
-four_of a b c d p q r s =
-    let n : ℕ = a * 16777216 + b * 65536 + c * 256 + d in
-    let w : n / 16777216 % 256 ≡ a = omega arith in
-    let x : n / 65536 % 256 ≡ b = omega arith in
-    let y : n / 256 % 256 ≡ c = omega arith in
-    let z : n % 256 ≡ d = omega arith in
-    cc
-
--- two bytes are those of the number that they give
-pub two_of : (a b : ℕ) → a < 256 → b < 256 → two_bytes (a * 256 + b) ≡ a ∷ b ∷ []
-two_of a b p q =
-    let x : (a * 256 + b) / 256 % 256 ≡ a = omega arith in
-    let y : (a * 256 + b) % 256 ≡ b = omega arith in
-    cc
 
 -- a record is read back
 pub record_reads : (t : TaskRecord) (s : List ℕ) → t.period < 4294967296 → t.deadline < 4294967296

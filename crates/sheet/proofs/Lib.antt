@@ -1,5 +1,4 @@
 pub mod Bytes
-pub mod Fields
 pub mod Loads
 pub mod Records
 pub mod RoundTrip

@@ -1,5 +1,5 @@
 -- What is written loads, and nothing else does.
-use Rattle.std.proofs.Common.{◌≡◌, ℕ, List, Ok, Err, ap, ◌∙◌, arith}
+use Rattle.std.proofs.Common.{◌≡◌, ℕ, List, Ok, Err, ap, ◌∙◌}
 use Rattle.book.specs.Books.{holds}
 use Rattle.book.specs.declared.book.Book.{Book}
 use Rattle.book.proofs.Injective.{held_same}
@@ -17,8 +17,7 @@ written_loads b = round_trip (holds b) (book_keeps b)
 pub refused_unwritten : (s : List ℕ) (f : Fault) → decode s ≡ Err f → (b : Book) → s ≡ encode (holds b) → ⊥
 refused_unwritten s f e b w =
     let loads : decode s ≡ Ok (holds b) = ap decode w ∙ written_loads b in
-    let z : ◌≡◌ {A = ℕ} 0 1 = cc in
-    omega arith
+    cc
 
 -- a sheet loads as the book that it was written for
 pub loads_itself : (s : List ℕ) (new b : Book) → decode s ≡ Ok (holds new) → s ≡ encode (holds b) → new ≡ b

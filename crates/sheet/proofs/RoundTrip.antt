@@ -13,9 +13,11 @@ use Rattle.book.specs.declared.refusal.Refusal.TheVariants as r
 use Rattle.book.proofs.Answered.{passed_on}
 use Rattle.book.proofs.Multiples.{AllPositive, hyperperiod_is, hyperperiod_pos}
 use Rattle.book.proofs.Rows.{falling_not, outside_not, within_not}
-use Rattle.sheet.specs.Encoding.{body_bytes, encode, records_bytes}
-use Rattle.sheet.specs.Decoding.{decode, read_records, record_at, record_checks}
-use Rattle.sheet.proofs.Bytes.{body_long, good_length, record_reads, value_two}
+use Rattle.sheet.specs.Encoding.{body_bytes, encode, record_bytes, records_bytes}
+use Rattle.sheet.specs.Decoding.{decode, read_records}
+use Rattle.sheet.specs.Reading.{loaded}
+use Rattle.sheet.proofs.Records.{loaded_is}
+use Rattle.sheet.proofs.Bytes.{body_long, good_length, value_two}
 
 -- a task that keeps the rules passes its checks
 task_passes : (t : TaskRecord) → TaskKeeps t → judged (task_checks t) t ≡ Ok t
@@ -28,10 +30,6 @@ task_passes t k =
       within_not t.times k.within,
       falling_not t.times k.falling,
     )
-
--- the record of a task that keeps the rules is read back
-task_reads : (t : TaskRecord) (s : List ℕ) → TaskKeeps t → record_at (9 + 4 * length t.times) (body_bytes t ++ s) ≡ t
-task_reads t s k = record_reads t s (omega arith) (omega arith) (λ i lt. omega (arith, k.within i lt))
 
 -- the last number of a front is below the next one
 number_above : (ts : List TaskRecord) (u : TaskRecord) (us : List TaskRecord) → 1 ≤ u.number → Ascending (map number_of (ts ++ u ∷ us))
@@ -82,14 +80,11 @@ module _ (l : Ledger) (k : KeepsRules l) where
 
   -- its record passes every check
   record_passes : (ts : List TaskRecord) (u : TaskRecord) (us : List TaskRecord) (s : List ℕ) → l.tasks ≡ ts ++ u ∷ us
-      → judged (record_checks (9 + 4 * length u.times) (body_bytes u ++ s) ts) (ts ++ record_at (9 + 4 * length u.times) (body_bytes u ++ s) ∷ [])
-      ≡ Ok (ts ++ u ∷ [])
+      → loaded (record_bytes u ++ s) ts ≡ Ok (ts ++ u ∷ [])
   record_passes ts u us s e =
       let keep = (keep_front ts u us (subst AllKeep e k.tasks_keep)).0 in
-      let len : ℕ = 9 + 4 * length u.times in
-      let fits : len ≤ length (body_bytes u ++ s) = omega (arith, body_long u, length-append (body_bytes u) s) in
-      rw (good_length (length u.times) keep.row_from keep.row_to, le-ltb (length (body_bytes u ++ s)) len fits)
-      (ap (λ t. append_tasks t ts) (task_reads u s keep) ∙ append_passes ts u us e)
+      loaded_is u (good_length (length u.times) keep.row_from keep.row_to) (omega arith) (omega arith) (λ i lt. omega (arith, keep.within i lt)) s ts
+      ∙ append_passes ts u us e
 
   -- the records of the tasks that are left are read behind those before them
   read_all : (us ts : List TaskRecord) (most place : ℕ) → l.tasks ≡ ts ++ us → length (records_bytes us) ≤ most

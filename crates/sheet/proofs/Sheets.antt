@@ -1,6 +1,6 @@
 -- The loop over the records of a sheet, one record at a time.
-use Rattle.std.proofs.Common.{◌≡◌, ℕ, zero, suc, ◌+◌, ◌-◌, ◌<◌, ◌≤◌, List, [], ◌∷◌, ◌++◌, length, drop, Ok, Err, Result, sym, refl, ap, ◌∙◌, arith}
-use Rattle.std.proofs.lemmas.List.{append_assoc, append-nil, length-append, length-drop}
+use Rattle.std.proofs.Common.{◌≡◌, ℕ, zero, suc, ◌+◌, ◌-◌, ◌*◌, ◌<◌, ◌≤◌, List, [], ◌∷◌, ◌++◌, length, get_or, drop, Ok, Err, Result, sym, refl, ap, ◌∙◌, arith}
+use Rattle.std.proofs.lemmas.List.{append_assoc, append-nil, drop_at, length-append, length-drop}
 use Rattle.std.proofs.lemmas.Bool.{le-ltb, ne_eqb}
 use Rattle.book.specs.Books.{holds, make_answer}
 use Rattle.book.specs.Checks.{Did, judged, outside}
@@ -10,9 +10,10 @@ use Rattle.book.specs.declared.refusal.Refusal.{Refusal}
 use Rattle.book.specs.declared.refusal.Refusal.TheVariants as r
 use Rattle.book.proofs.Answered.{done_same, passed_on}
 use Rattle.sheet.specs.Decoding.{and_then, decode, head_checks, placed, read_records, record_at, record_checks, value2}
-use Rattle.sheet.specs.Encoding.{encode, record_bytes, records_bytes, two_bytes}
+use Rattle.sheet.specs.Encoding.{body_bytes, encode, record_bytes, records_bytes, two_bytes}
+use Rattle.sheet.specs.Reading.{first_record, loaded}
 use Rattle.sheet.specs.declared.fault.Fault.{Fault}
-use Rattle.sheet.proofs.Bytes.{records_append, value_two}
+use Rattle.sheet.proofs.Bytes.{body_long, records_append, value_two}
 
 -- what the sheet gives from a place on, where the ledger holds what was read before it
 abbrev pub decoded_from : Ledger → ℕ → List ℕ → Result Ledger Fault
@@ -34,34 +35,36 @@ read_more (suc f) (suc g) place ts (b ∷ s) p q =
     then_same (placed place (judged (record_checks b s ts) (ts ++ record_at b s ∷ []))) _ _
     (λ more. read_more f g (place + suc b) more (drop b s) (omega (arith, length-drop b s)) (omega (arith, length-drop b s)))
 
-module _ (old new : Ledger) (len place : ℕ) (s rest : List ℕ) where
-  -- one record more
-  pub one_more : judged (record_checks len s old.tasks) (old.tasks ++ record_at len s ∷ []) ≡ Ok new.tasks → new.cache ≡ old.cache → rest ≡ drop len s
-      → decoded_from old place (len ∷ s) ≡ decoded_from new (place + suc len) rest
-  one_more e c d =
-      let left : length rest ≤ length s = omega (arith, ap length d, length-drop len s) in
-      let stay : Result (List TaskRecord) Fault → Result Ledger Fault = λ a. and_then a (λ ts. Ok (record { cache = old.cache; tasks = ts })) in
-      ap (λ a. stay (and_then (placed place a) (λ more. read_records (length s) (place + suc len) more (drop len s)))) e
-      ∙ ap (λ zs. stay (read_records (length s) (place + suc len) new.tasks zs)) (sym d)
-      ∙ ap stay (read_more (length s) (length rest) (place + suc len) new.tasks rest left (omega arith))
-      ∙ ap (λ size. and_then (read_records (length rest) (place + suc len) new.tasks rest) (λ ts. Ok (record { cache = size; tasks = ts }))) (sym c)
+-- what is left behind a record
+rest_is : (len : ℕ) (s rest : List ℕ) (t : TaskRecord) → len ∷ s ≡ record_bytes t ++ rest → (rest ≡ drop len s) × (length s ≡ len + length rest)
+rest_is len s rest t e =
+    let size : len ≡ 9 + 4 * length t.times = cc in
+    let body : s ≡ body_bytes t ++ rest = cc in (
+      sym (ap (drop len) body ∙ drop_at (body_bytes t) rest len (body_long t ∙ sym size)),
+      omega (arith, ap length body, length-append (body_bytes t) rest, body_long t),
+    )
 
-  -- the bytes so far are those of the ledger so far
-  pub bytes_more : (sheet : List ℕ) → judged (record_checks len s old.tasks) (old.tasks ++ record_at len s ∷ []) ≡ Ok new.tasks → new.cache ≡ old.cache
-      → len ∷ s ≡ record_bytes (record_at len s) ++ rest → sheet ≡ encode old ++ (len ∷ s) → sheet ≡ encode new ++ rest
-  bytes_more sheet e c d inv =
-      let one = record_at len s in
-      let tasks : new.tasks ≡ old.tasks ++ one ∷ [] = done_same (record_checks len s old.tasks) (old.tasks ++ one ∷ []) new.tasks e in
-      let bytes : records_bytes new.tasks ≡ records_bytes old.tasks ++ record_bytes one =
-      ap records_bytes tasks ∙ records_append old.tasks (one ∷ []) ∙ ap (λ zs. records_bytes old.tasks ++ zs) (append-nil (record_bytes one)) in
-      let whole : encode new ≡ encode old ++ record_bytes one = (λ j. 1 ∷ (two_bytes (c j) ++ bytes j)) in
-      inv ∙ ap (λ zs. encode old ++ zs) d ∙ sym (append_assoc (encode old) (record_bytes one) rest) ∙ ap (λ zs. zs ++ rest) (sym whole)
+-- one record more
+one_more : (old new : Ledger) (len place : ℕ) (s rest : List ℕ) → loaded (len ∷ s) old.tasks ≡ Ok new.tasks → new.cache ≡ old.cache
+    → len ∷ s ≡ record_bytes (first_record (len ∷ s)) ++ rest → decoded_from old place (len ∷ s) ≡ decoded_from new (place + suc len) rest
+one_more old new len place s rest e c b =
+    let d = rest_is len s rest (first_record (len ∷ s)) b in
+    let stay : Result (List TaskRecord) Fault → Result Ledger Fault = λ a. and_then a (λ ts. Ok (record { cache = old.cache; tasks = ts })) in
+    ap (λ a. stay (and_then (placed place a) (λ more. read_records (length s) (place + suc len) more (drop len s)))) e
+    ∙ ap (λ zs. stay (read_records (length s) (place + suc len) new.tasks zs)) (sym d.0)
+    ∙ ap stay (read_more (length s) (length rest) (place + suc len) new.tasks rest (omega (arith, d.1)) (omega arith))
+    ∙ ap (λ size. and_then (read_records (length rest) (place + suc len) new.tasks rest) (λ ts. Ok (record { cache = size; tasks = ts }))) (sym c)
 
--- a record that is refused refuses the sheet
-pub one_refused : (l : Ledger) (len place : ℕ) (s : List ℕ) (f : Fault) → placed place (judged (record_checks len s l.tasks) (l.tasks ++ record_at len s ∷ [])) ≡ Err f
-    → decoded_from l place (len ∷ s) ≡ Err f
-one_refused l len place s f e =
-    ap (λ a. and_then (and_then a (λ more. read_records (length s) (place + suc len) more (drop len s))) (λ ts. Ok (record { cache = l.cache; tasks = ts }))) e
+-- the bytes so far are those of the ledger so far
+bytes_more : (old new : Ledger) (s rest sheet : List ℕ) → loaded s old.tasks ≡ Ok new.tasks → new.cache ≡ old.cache → s ≡ record_bytes (first_record s) ++ rest
+    → sheet ≡ encode old ++ s → sheet ≡ encode new ++ rest
+bytes_more old new s rest sheet e c b inv =
+    let one = first_record s in
+    let tasks : new.tasks ≡ old.tasks ++ one ∷ [] = done_same (record_checks (get_or s 0 0) (drop 1 s) old.tasks) (old.tasks ++ one ∷ []) new.tasks e in
+    let bytes : records_bytes new.tasks ≡ records_bytes old.tasks ++ record_bytes one =
+    ap records_bytes tasks ∙ records_append old.tasks (one ∷ []) ∙ ap (λ zs. records_bytes old.tasks ++ zs) (append-nil (record_bytes one)) in
+    let whole : encode new ≡ encode old ++ record_bytes one = (λ j. 1 ∷ (two_bytes (c j) ++ bytes j)) in
+    inv ∙ ap (λ zs. encode old ++ zs) b ∙ sym (append_assoc (encode old) (record_bytes one) rest) ∙ ap (λ zs. zs ++ rest) (sym whole)
 
 abbrev records_of : List ℕ → ℕ → Result Ledger Fault
 records_of s size = and_then (read_records (length s) 3 [] (drop 3 s)) (λ ts. Ok (record { cache = size; tasks = ts }))
@@ -92,37 +95,23 @@ module _ (s rest : List ℕ) (size : ℕ) (split : s ≡ 1 ∷ (two_bytes size +
         long,
       )
 
-  pub head_passes : (a : Result (Unit {0}) Refusal) (old new : Book) (u : Unit {0}) → Did holds old new (make_answer size) a → Ok u ≡ placed 0 a
+  pub head_passes : (a : Result (Unit {0}) Refusal) (old new : Book) (u : Unit {0}) (place : ℕ) → Did holds old new (make_answer size) a → Ok u ≡ placed place a
       → (decoded_from (holds new) (length s - length rest) rest ≡ decode s) × (s ≡ encode (holds new) ++ rest)
-  head_passes (Ok v) old new u did e =
+  head_passes (Ok v) old new u place did e =
       let b = begins (holds new) did in
       let three : length s - length rest ≡ 3 = omega (arith, b.2) in
       (ap (λ place. decoded_from (holds new) place rest) three ∙ sym b.0, b.1)
-  head_passes (Err q) old new u did e = let z : ◌≡◌ {A = ℕ} 0 1 = cc in absurd (omega arith)
+  head_passes (Err q) old new u place did e = cc
 
--- one turn of the loop: the bytes left are a length byte and what is behind it
-module _ (old : Ledger) (sheet left s : List ℕ) (len : ℕ) (is : left ≡ len ∷ s) (from : decoded_from old (length sheet - length left) left ≡ decode sheet)
-    (bytes : sheet ≡ encode old ++ left) where
-  here : sheet ≡ encode old ++ (len ∷ s)
-  here = bytes ∙ ap (λ zs. encode old ++ zs) is
-
-  from_here : decoded_from old (length sheet - length left) (len ∷ s) ≡ decode sheet
-  from_here = ap (decoded_from old (length sheet - length left)) (sym is) ∙ from
-
-  pub turn_refused : (f : Fault) → placed (length sheet - length left) (judged (record_checks len s old.tasks) (old.tasks ++ record_at len s ∷ [])) ≡ Err f → decode sheet ≡ Err f
-  turn_refused f e = sym from_here ∙ one_refused old len (length sheet - length left) s f e
-
-  pub turn_more : (new : Ledger) (rest : List ℕ) → judged (record_checks len s old.tasks) (old.tasks ++ record_at len s ∷ []) ≡ Ok new.tasks → new.cache ≡ old.cache
-      → len ≤ length s → rest ≡ drop len s → len ∷ s ≡ record_bytes (record_at len s) ++ rest
-      → (decoded_from new (length sheet - length rest) rest ≡ decode sheet) × (sheet ≡ encode new ++ rest)
-  turn_more new rest e c whole d b =
-      let on : length sheet - length left + suc len ≡ length sheet - length rest =
-      omega (arith, ap length is, ap length d, length-drop len s, ap length bytes, length-append (encode old) left) in (
-        ap (λ place. decoded_from new place rest) (sym on) ∙ sym (one_more old new len (length sheet - length left) s rest e c d) ∙ from_here,
-        bytes_more old new len (length sheet - length left) s rest sheet e c b here,
-      )
-
--- the end of the sheet
-pub no_more : (l : Ledger) (place : ℕ) (sheet s : List ℕ) → length s ≡ 0 → decoded_from l place s ≡ decode sheet → sheet ≡ encode l ++ s → (decode sheet ≡ Ok l) × (sheet ≡ encode l)
-no_more l place sheet [] z d e = (sym d, e ∙ append-nil (encode l))
-no_more l place sheet (b ∷ s) z d e = absurd (omega arith)
+-- one turn of the loop: a record that is loaded leaves the rest
+pub turn_more : (old new : Ledger) (sheet left rest : List ℕ) → 0 < length left → decoded_from old (length sheet - length left) left ≡ decode sheet
+    → sheet ≡ encode old ++ left → loaded left old.tasks ≡ Ok new.tasks → new.cache ≡ old.cache → left ≡ record_bytes (first_record left) ++ rest
+    → (decoded_from new (length sheet - length rest) rest ≡ decode sheet) × (sheet ≡ encode new ++ rest)
+turn_more old new sheet [] rest some from bytes e c b = absurd (omega arith)
+turn_more old new sheet (len ∷ s) rest some from bytes e c b =
+    let d = rest_is len s rest (first_record (len ∷ s)) b in
+    let place = length sheet - length (len ∷ s) in
+    let on : place + suc len ≡ length sheet - length rest = omega (arith, d.1, ap length bytes, length-append (encode old) (len ∷ s)) in (
+      ap (λ p. decoded_from new p rest) (sym on) ∙ sym (one_more old new len place s rest e c b) ∙ from,
+      bytes_more old new (len ∷ s) rest sheet e c b bytes,
+    )

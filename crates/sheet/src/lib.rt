@@ -4,5 +4,6 @@
 pub mod fault;
 pub mod load;
 mod read;
-mod record;
+mod reader;
 pub mod write;
+mod writer;

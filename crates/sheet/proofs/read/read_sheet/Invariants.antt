@@ -5,9 +5,10 @@ use Rattle.sheet.specs.Encoding.{encode}
 use Rattle.sheet.proofs.Sheets.{decoded_from}
 use Rattle.sheet.proofs.read.read_sheet.Given as goal
 
-abbrev pub invariant-loop-rest : goal.invariant-loop-rest
-invariant-loop-rest l =
-    (decoded_from (holds l.book) (length l.sheet - length l.rest) l.rest ≡ decode l.sheet) × (l.sheet ≡ encode (holds l.book) ++ l.rest)
+abbrev pub invariant-loop-reader : goal.invariant-loop-reader
+invariant-loop-reader l =
+    let left = l.reader.bytes.now in
+    (decoded_from (holds l.book) (length l.sheet - length left) left ≡ decode l.sheet) × (l.sheet ≡ encode (holds l.book) ++ left)
 
-abbrev pub decreases-loop-rest : goal.decreases-loop-rest
-decreases-loop-rest l = length l.rest
+abbrev pub decreases-loop-reader : goal.decreases-loop-reader
+decreases-loop-reader l = length l.reader.bytes.now
