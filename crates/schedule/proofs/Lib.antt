@@ -1,6 +1,6 @@
-pub mod Changing
 pub mod Demanding
 pub mod Loading
-pub mod Requesting
+pub mod Pairing
 pub mod Responding
+pub mod Shaping
 pub mod Slices

@@ -1,53 +1,34 @@
--- The loop that sums the work of a cycle, one task at a time.
-use Rattle.std.proofs.Common.{◌≡◌, ℕ, ◌+◌, ◌-◌, ◌*◌, ◌/◌, ◌<◌, ◌≤◌, List, map, length, get_or, drop, ap, mul-le-mul, arith}
-use Rattle.std.proofs.lemmas.List.{drop_all}
-use Rattle.book.proofs.ClassLists.{both_more}
+-- The loop that sums the work of a cycle, one task on.
+use Rattle.std.proofs.Common.{◌≡◌, ℕ, ◌+◌, ◌*◌, ◌≤◌, List, [], ◌∷◌, length, ap, sym, subst, arith}
+use Rattle.std.proofs.lemmas.List.{length-map}
 use Rattle.book.specs.Classes.{work_in}
 use Rattle.book.specs.Held.{record_of}
-use Rattle.book.specs.declared.task.Task.{Task}
+use Rattle.book.specs.Ledger.{TaskRecord}
 use Rattle.schedule.specs.Deciding.{AllTimely, early_work}
-use Rattle.schedule.specs.Lemmas.Bounds.{work_within}
-use Rattle.schedule.proofs.Demanding.{rest, rest_more, rest_none, timely_here, timely_on, whole_list}
+use Rattle.schedule.specs.Pairs.{tasks_in, timed_in}
+use Rattle.schedule.specs.Timed.{timed}
+use Rattle.schedule.specs.declared.timed_tasks.TimedTasks.{TimedTasks}
+use Rattle.schedule.proofs.Pairing.{Pairs, left, work_left}
 
--- the work of the tasks from a place on
-abbrev pub work_left : ℕ → List Task → List ℕ → ℕ → ℕ
-work_left cycle ts xs i = work_in cycle (map record_of (drop i ts)) (drop i xs)
+-- What the loop has found: the sums so far make the whole ones with what is left, and each task that is left has room for the
+-- largest share below their bounds.
+abbrev pub LoadSoFar : TimedTasks → Pairs → ℕ → ℕ → ℕ → Type 0
+LoadSoFar s it cycle work early =
+    (work + work_left cycle it ≡ work_in cycle (tasks_in s) s.times.now)
+    × (early + early_work cycle (left it) ≡ early_work cycle (timed_in s))
+    × AllTimely (left it)
+    × (work + 10000000000 * length (left it) ≤ 160000000000)
+    × (early + 10000000000000000 * length (left it) ≤ 160000000000000000)
 
--- what the loop has found at a place: the sums so far, with what is left, are the whole ones, and stay within bounds
-abbrev pub LoadSoFar : List Task → List ℕ → ℕ → ℕ → ℕ → ℕ → Type 0
-LoadSoFar ts xs cycle i work early =
-    (work + work_left cycle ts xs i ≡ work_in cycle (map record_of ts) xs)
-    × (early + early_work cycle (rest ts xs i) ≡ early_work cycle (whole_list ts xs))
-    × AllTimely (rest ts xs i)
-    × (work ≤ 10000000000 * i)
-    × (early ≤ 10000000000000000 * i)
+-- no more tasks stand beside a time than there are
+timed_few : (ts : List TaskRecord) (xs : List ℕ) → length (timed ts xs) ≤ length ts
+timed_few [] xs = omega arith
+timed_few (t ∷ ts) [] = omega arith
+timed_few (t ∷ ts) (x ∷ xs) = omega (arith, timed_few ts xs)
 
-module _ (ts : List Task) (xs : List ℕ) (cycle i : ℕ) (t : Task) (work early : ℕ) (lt : i < length ts) (same : length xs ≡ length ts) (e : t ≡ get_or ts i t)
-    (within : cycle ≤ 10000000000) (inv : LoadSoFar ts xs cycle i work early) where
-  pub share_small : cycle / t.period * get_or xs i 0 ≤ 10000000000
-  share_small =
-      let timely = timely_here ts xs i t lt same e inv.2 in
-      omega (arith, work_within cycle t.period (get_or xs i 0) (omega (arith, t.timed.1)))
-
-  pub early_fits : (t.period - t.deadline) * (cycle / t.period * get_or xs i 0) ≤ 10000000000000000
-  early_fits =
-      let d : t.period - t.deadline ≤ 1000000 = omega (arith, t.timed.2) in
-      let m : (t.period - t.deadline) * (cycle / t.period * get_or xs i 0) ≤ 1000000 * 10000000000 = mul-le-mul d share_small in
-      omega arith
-
-  pub load_more : LoadSoFar ts xs cycle (i + 1) (work + cycle / t.period * get_or xs i 0) (early + (t.period - t.deadline) * (cycle / t.period * get_or xs i 0))
-  load_more =
-      let split = rest_more ts xs i t lt (omega arith) e in
-      let w : work_left cycle ts xs i ≡ cycle / t.period * get_or xs i 0 + work_left cycle ts xs (i + 1) =
-      both_more (λ us ys. work_in cycle (map record_of us) ys) ts xs i t 0 lt (omega arith) e in
-      let y : early_work cycle (rest ts xs i) ≡ (t.period - t.deadline) * (cycle / t.period * get_or xs i 0) + early_work cycle (rest ts xs (i + 1)) = ap (early_work cycle) split in
-      (omega (arith, inv.0), omega (arith, inv.1), timely_on ts xs i t lt same e inv.2, omega (arith, share_small, inv.3), omega (arith, early_fits, inv.4))
-
--- the end of the loop
-pub load_all : (ts : List Task) (xs : List ℕ) (cycle i work early : ℕ) → length ts ≤ i → LoadSoFar ts xs cycle i work early
-    → (work ≡ work_in cycle (map record_of ts) xs) × (early ≡ early_work cycle (whole_list ts xs))
-load_all ts xs cycle i work early le inv =
-    let none = rest_none ts xs i le in
-    let w : work_left cycle ts xs i ≡ 0 = ap (λ us. work_in cycle (map record_of us) (drop i xs)) (drop_all i ts le) in
-    let y : early_work cycle (rest ts xs i) ≡ 0 = ap (early_work cycle) none in
-    (omega (arith, inv.0), omega (arith, inv.1))
+-- at the start nothing is summed yet
+pub load_none : (s : TimedTasks) (it : Pairs) (cycle : ℕ) → left it ≡ timed_in s → work_left cycle it ≡ work_in cycle (tasks_in s) s.times.now → length s.tasks.now ≤ 16 → AllTimely (timed_in s)
+    → LoadSoFar s it cycle 0 0
+load_none s it cycle e w few timely =
+    let long : length (left it) ≤ 16 = omega (arith, ap length e, timed_few (tasks_in s) s.times.now, length-map s.tasks.now record_of) in
+    (omega arith, omega (arith, ap (early_work cycle) e), subst AllTimely (sym e) timely, omega arith, omega arith)

@@ -2,11 +2,12 @@
 use Rattle.std.proofs.Common.{◌≡◌, ℕ, zero, suc, ◌+◌, ◌-◌, ◌*◌, ◌<◌, ◌≤◌, Bool, true, false, ◌&&◌, List, [], ◌∷◌, ◌++◌, map, length, get_or, take, drop, is_some, Some, None, Option, sym, ap, ◌∙◌, subst, mul-le-mul_right, one-mul, arith}
 use Rattle.std.proofs.lemmas.List.{at_drop_all, at_drop_more, get_or_default, get_or-map, take_more}
 use Rattle.std.proofs.lemmas.Bool.{and_from, and_left, and_right}
+use Rattle.std.specs.List.{list_all}
 use Rattle.book.specs.Keeping.{AllKeep}
 use Rattle.book.specs.Ledger.{TaskRecord, number_of}
 use Rattle.book.specs.Rules.{Ascending}
 use Rattle.schedule.specs.Demands.{releases, requested}
-use Rattle.schedule.specs.FixedPriority.{each, fixed_priority, higher, response, response_at, response_demand}
+use Rattle.schedule.specs.FixedPriority.{fixed_priority, higher, response, response_at, response_demand}
 use Rattle.schedule.specs.Interference.{NotBefore, demand_at}
 use Rattle.schedule.specs.Least.{Least}
 use Rattle.schedule.specs.Timed.{Timed, deadline_at, timed, well_shaped}
@@ -29,10 +30,6 @@ period_at [] xs place keep same lt = absurd (omega arith)
 period_at (t ∷ ts) [] place keep same lt = absurd (omega arith)
 period_at (t ∷ ts) (x ∷ xs) zero keep same lt = keep.0.period_from
 period_at (t ∷ ts) (x ∷ xs) (suc place) keep same lt = period_at ts xs place keep.1 (omega arith) (omega arith)
-
--- nothing stands before the first task
-pub not_before_none : (ts : List TaskRecord) (xs : List ℕ) (place : ℕ) → NotBefore ts xs place 0
-not_before_none ts xs place s one e = omega arith
 
 module _ (ts : List TaskRecord) (xs : List ℕ) (ascends : Ascending (map number_of ts)) (shaped : well_shaped ts xs ≡ true) where
   abbrev ks : List Timed
@@ -105,16 +102,16 @@ module _ (ts : List TaskRecord) (xs : List ℕ) (ascends : Ascending (map number
 
   -- all tasks respond
   abbrev all : Bool
-  all = each (λ k. is_some (response ks k)) ks
+  all = list_all (λ k. is_some (response ks k)) ks
 
   -- the tasks from a place on respond
   abbrev from_place : ℕ → Bool
-  from_place place = each (λ k. is_some (response ks k)) (drop place ks)
+  from_place place = list_all (λ k. is_some (response ks k)) (drop place ks)
 
   responds_more : (place : ℕ) → place < length ts → from_place place ≡ (is_some (response_at ts xs place) && from_place (place + 1))
   responds_more place lt =
       let here : place < length ks = omega (arith, timed_long ts xs same_length) in
-      at_drop_more (each (λ k. is_some (response ks k))) ks place blank here
+      at_drop_more (list_all (λ k. is_some (response ks k))) ks place blank here
       ∙ ap (λ r. is_some r && from_place (place + 1)) (sym (get_or-map (response ks) ks place blank None here))
 
   -- one task that does not respond fails the list
@@ -133,4 +130,4 @@ module _ (ts : List TaskRecord) (xs : List ℕ) (ascends : Ascending (map number
   pub responds_all : (place : ℕ) → length ts ≤ place → all ≡ from_place place → true ≡ fixed_priority ts xs
   responds_all place le inv =
       sym (and_from (well_shaped ts xs) all shaped
-      (inv ∙ at_drop_all (each (λ k. is_some (response ks k))) ks place (omega (arith, timed_long ts xs same_length))))
+      (inv ∙ at_drop_all (list_all (λ k. is_some (response ks k))) ks place (omega (arith, timed_long ts xs same_length))))

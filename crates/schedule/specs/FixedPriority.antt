@@ -1,5 +1,6 @@
 -- The fixed-priority test: the response equation of every task has a solution up to its deadline.
 use Rattle.std.specs.Prelude.{◌≡◌, ℕ, ◌+◌, ◌≤◌, Bool, true, cond, ◌&&◌, List, [], ◌∷◌, map, is_some, Some, None, Option, nat_lt, slice_index_or}
+use Rattle.std.specs.List.{list_all}
 use Rattle.book.specs.Ledger.{TaskRecord}
 use Rattle.schedule.specs.Demands.{requested}
 use Rattle.schedule.specs.Least.{least_to}
@@ -34,13 +35,9 @@ pub record EachResponds (ts : List TaskRecord) (xs : List ℕ) : Type 0 where
 abbrev pub response : List Timed → Timed → Option ℕ
 response ks k = least_to k.deadline (response_demand ks k)
 
-abbrev pub each : (Timed → Bool) → List Timed → Bool
-each p [] = true
-each p (k ∷ ks) = p k && each p ks
-
 -- the condition as yes or no
 abbrev pub fixed_priority : List TaskRecord → List ℕ → Bool
-fixed_priority ts xs = well_shaped ts xs && each (λ k. is_some (response (timed ts xs) k)) (timed ts xs)
+fixed_priority ts xs = well_shaped ts xs && list_all (λ k. is_some (response (timed ts xs) k)) (timed ts xs)
 
 -- the response time of the task at a place, counted from 0; none past the last task
 abbrev pub response_at : List TaskRecord → List ℕ → ℕ → Option ℕ

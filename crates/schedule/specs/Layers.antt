@@ -1,5 +1,5 @@
 -- Layers: tests that ask the one below with changed times.
-use Rattle.std.specs.Prelude.{◌≡◌, ℕ, ◌+◌, ◌*◌, ◌/◌, min, Bool, cond, ◌&&◌, List, [], ◌∷◌, map, None, Option, Result, nat_lt}
+use Rattle.std.specs.Prelude.{◌≡◌, ℕ, ◌+◌, ◌*◌, ◌/◌, min, Bool, cond, ◌&&◌, List, [], ◌∷◌, map, None, Option, Result, fold, nat_lt}
 use Rattle.book.specs.Checks.{judged, outside}
 use Rattle.book.specs.Ledger.{Ledger}
 use Rattle.book.specs.declared.refusal.Refusal.{Refusal}
@@ -18,6 +18,10 @@ charged ticks x = capped (x + 2 * ticks)
 -- a margin: a factor in thousandths on each time, rounded up
 abbrev pub widened : ℕ → ℕ → ℕ
 widened margin x = capped ((x * margin + 999) / 1000)
+
+-- changes of a kind, each in turn, the first one first
+abbrev pub through : {C : Type 0} → (C → ℕ → ℕ) → List C → ℕ → ℕ
+through changed changes x = fold (λ time change. changed change time) x changes
 
 -- making a layer: a charge of at most 1,000 ticks, a margin of 1,000 to 4,000 thousandths
 abbrev pub charge_answer : ℕ → Result ℕ Refusal

@@ -8,4 +8,5 @@ pub mod Laws
 pub mod Layers
 pub mod Least
 pub mod Lemmas
+pub mod Pairs
 pub mod Timed

@@ -1,5 +1,6 @@
 -- Tasks beside the execution times that they are tested at.
-use Rattle.std.specs.Prelude.{ℕ, Bool, true, ◌&&◌, List, [], ◌∷◌, map, length, ◌==◌, nat_lt, slice_index}
+use Rattle.std.specs.Prelude.{ℕ, Bool, ◌&&◌, List, [], ◌∷◌, map, length, ◌==◌, nat_lt, slice_index}
+use Rattle.std.specs.List.{list_all}
 use Rattle.book.specs.Ledger.{TaskRecord}
 
 -- one task at one worst-case execution time; the smaller its number, the higher its priority
@@ -17,8 +18,7 @@ timed (t ∷ ts) (x ∷ xs) = record { number = t.number; period = t.period; dea
 
 -- no time is 0
 abbrev pub nowhere_zero : List ℕ → Bool
-nowhere_zero [] = true
-nowhere_zero (x ∷ xs) = nat_lt 0 x && nowhere_zero xs
+nowhere_zero xs = list_all (λ x. nat_lt 0 x) xs
 
 -- one time for each task, and none is 0
 abbrev pub well_shaped : List TaskRecord → List ℕ → Bool

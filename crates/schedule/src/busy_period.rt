@@ -1,13 +1,12 @@
 // The busy period: how long the processor works without a pause when all tasks are released together.
-ghost use Rattle.std.specs.Prelude.{max, map};
+ghost use Rattle.std.specs.Prelude.{max};
 ghost use Rattle.schedule.specs.Demands.{requested};
 ghost use Rattle.schedule.specs.Timed.{timed};
 ghost use Rattle.std.proofs.Common.{arith, rules};
 ghost use Rattle.schedule.specs.Lemmas.Sums.{requested_grows};
 
 use crate::demand::Demand;
-use crate::requests::work_requested;
-use book::task::Task;
+use crate::timed_tasks::TimedTasks;
 
 /// The demand whose least solution is the synchronous busy period: what the tasks release in t ticks. Where there is no work at
 /// all it is 1, since a growing demand is never nothing.
@@ -21,7 +20,7 @@ impl Demand for BusyPeriod {
 
     ghost grows = { λ demand ts xs s t one le. omega (arith, requested_grows (timed ts xs) s t le) };
 
-    fn demand(&self, tasks: &[Task], times: &[u32], t: u64) -> Option<u64> {
-        Some(work_requested(tasks, times, t, 0)?.max(1))
+    fn demand(&self, timed: TimedTasks<'_>, t: u64) -> Option<u64> {
+        Some(timed.work_requested(t, 0)?.max(1))
     }
 }

@@ -21,7 +21,7 @@ pub(crate) const CAP: u64 = 1_000_001;
 pub(crate) fn change_all<C: Change>(change: &C, times: &mut [u32])
     ensures { times.new ≡ map (C.Change.changed change.now) times.old }
 {
-    for i in 0..times.len() {
-        times[i] = change.change(times[i]);
+    for time in times.iter_mut() {
+        *time = change.change(*time);
     }
 }

@@ -17,10 +17,12 @@ pub struct Charge {
     ghost within: { ticks ≤ 1000 },
 }
 
-impl Charge {
-    pub fn new(ticks: u32) -> Result<Charge, Refusal>
-        ensures { Made (λ c. c.ticks) (charge_answer ticks) result }
-    {
+impl TryFrom<u32> for Charge {
+    type Error = Refusal;
+
+    ghost try_from_gives = { λ ticks r. Made (λ c. c.ticks) (charge_answer ticks) r };
+
+    fn try_from(ticks: u32) -> Result<Charge, Refusal> {
         if ticks > LARGEST_CHARGE {
             return Err(Refusal::Charge);
         }
@@ -36,6 +38,6 @@ impl Change for Charge {
     ghost never_shortens = { λ charge x le. charged_never charge.ticks x le };
 
     fn change(&self, time: u32) -> u32 {
-        (time as u64 + 2 * self.ticks as u64).min(CAP) as u32
+        (u64::from(time) + 2 * u64::from(self.ticks)).min(CAP) as u32
     }
 }

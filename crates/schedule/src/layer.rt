@@ -4,8 +4,8 @@ ghost use Rattle.schedule.specs.Layers.{layered, layered_told};
 ghost use Rattle.schedule.specs.Lemmas.Layered.{layered_lawful, layered_tells};
 
 use crate::change::{Change, change_all};
-use crate::shape::is_well_shaped;
 use crate::test::Test;
+use crate::timed_tasks::TimedTasks;
 use crate::timing_test::TimingTest;
 use book::book::Book;
 use book::limits::MOST_TASKS;
@@ -24,7 +24,7 @@ fn changed_times<C: Change>(change: &C, times: &[u32]) -> [u32; MOST_TASKS]
     ensures front { take (length times.now - 0) result ≡ map (C.Change.changed change.now) times.now }
 {
     let mut table = [0; MOST_TASKS];
-    let changed = &mut table[0..times.len()];
+    let changed = &mut table[..times.len()];
     changed.copy_from_slice(times);
     change_all(change, changed);
     table
@@ -38,11 +38,15 @@ impl<C: Change, T: Test> Test for Layer<C, T> {
         (T.Test.passes layer.below) (T.Test.lawful layer.below) };
 
     fn ask(&self, book: &Book, times: &[u32]) -> bool {
-        if !is_well_shaped(book.tasks(), times) {
+        let timed = TimedTasks {
+            tasks: book.tasks(),
+            times,
+        };
+        if !timed.is_well_shaped() {
             return false;
         }
         let changed = changed_times(&self.change, times);
-        self.below.ask(book, &changed[0..times.len()])
+        self.below.ask(book, &changed[..times.len()])
     }
 }
 
@@ -56,10 +60,14 @@ impl<C: Change, T: TimingTest> TimingTest for Layer<C, T> {
         (T.TimingTest.tells layer.below l keeps (map change xs) place) };
 
     fn tell(&self, book: &Book, times: &[u32], place: usize) -> Option<u32> {
-        if !is_well_shaped(book.tasks(), times) {
+        let timed = TimedTasks {
+            tasks: book.tasks(),
+            times,
+        };
+        if !timed.is_well_shaped() {
             return None;
         }
         let changed = changed_times(&self.change, times);
-        self.below.tell(book, &changed[0..times.len()], place)
+        self.below.tell(book, &changed[..times.len()], place)
     }
 }

@@ -20,11 +20,13 @@ pub struct Margin {
     ghost within: { (1000 ≤ thousandths) × (thousandths ≤ 4000) },
 }
 
-impl Margin {
-    pub fn new(thousandths: u32) -> Result<Margin, Refusal>
-        ensures { Made (λ m. m.thousandths) (margin_answer thousandths) result }
-    {
-        if thousandths < SMALLEST_MARGIN || thousandths > LARGEST_MARGIN {
+impl TryFrom<u32> for Margin {
+    type Error = Refusal;
+
+    ghost try_from_gives = { λ thousandths r. Made (λ m. m.thousandths) (margin_answer thousandths) r };
+
+    fn try_from(thousandths: u32) -> Result<Margin, Refusal> {
+        if !(SMALLEST_MARGIN..=LARGEST_MARGIN).contains(&thousandths) {
             return Err(Refusal::Margin);
         }
         Ok(Margin { thousandths })
@@ -39,7 +41,7 @@ impl Change for Margin {
     ghost never_shortens = { λ margin x le. widened_never margin.thousandths x margin.within.0 le };
 
     fn change(&self, time: u32) -> u32 {
-        let widened = (time as u64 * self.thousandths as u64).div_ceil(1000);
+        let widened = (u64::from(time) * u64::from(self.thousandths)).div_ceil(1000);
         widened.min(CAP) as u32
     }
 }

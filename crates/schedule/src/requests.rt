@@ -1,24 +1,24 @@
 // The work that tasks release in a stretch of time, in the field the request bound.
-ghost use Rattle.std.specs.Prelude.{◌+◌, ◌^◌, ◌<◌, map};
+ghost use Rattle.std.specs.Prelude.{◌+◌, ◌^◌, ◌<◌};
 ghost use Rattle.std.specs.Option.{SomeIff};
-ghost use Rattle.book.specs.Held.{record_of};
 ghost use Rattle.schedule.specs.Demands.{requested};
-ghost use Rattle.schedule.specs.Timed.{timed};
+ghost use Rattle.schedule.specs.Pairs.{timed_in};
 
-use book::task::Task;
+use crate::timed_tasks::TimedTasks;
 
-/// `own` ticks and the work that the tasks, each at its time, release in t ticks at most; none where it does not fit the type.
-pub(crate) fn work_requested(tasks: &[Task], times: &[u32], t: u64, own: u64) -> Option<u64>
-    ensures { SomeIff result (own + requested (timed (map record_of tasks.now) times.now) t < 2 ^ 64)
-        (own + requested (timed (map record_of tasks.now) times.now) t) }
-{
-    let mut sum = own;
-    for i in 0..tasks.len().min(times.len()) {
-        let more = sum as u128 + t.div_ceil(tasks[i].period as u64) as u128 * times[i] as u128;
-        if more > u64::MAX as u128 {
-            return None;
+impl TimedTasks<'_> {
+    /// `own` ticks and the work that the tasks, each at its time, release in t ticks at most; none where it does not fit the type.
+    #[tactic(auto, using(crate::specs::Lemmas::Counts::releases_up))]
+    pub(crate) fn work_requested(self, t: u64, own: u64) -> Option<u64>
+        ensures { SomeIff result (own + requested (timed_in self.entry) t < 2 ^ 64)
+            (own + requested (timed_in self.entry) t) }
+    {
+        let mut sum = own;
+        for (task, time) in self.tasks.iter().zip(self.times) {
+            let jobs = t.div_ceil(u64::from(task.period));
+            let work = jobs.checked_mul(u64::from(*time))?;
+            sum = sum.checked_add(work)?;
         }
-        sum = more as u64;
+        Some(sum)
     }
-    Some(sum)
 }

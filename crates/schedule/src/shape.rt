@@ -1,36 +1,27 @@
 // The shape of a list of times.
-ghost use Rattle.std.specs.Prelude.{◌≡◌, map, length};
-ghost use Rattle.book.specs.Held.{record_of};
+ghost use Rattle.std.specs.Prelude.{◌≡◌};
 ghost use Rattle.schedule.specs.Deciding.{AllTimely};
 ghost use Rattle.schedule.specs.Laws.{Exactly};
-ghost use Rattle.schedule.specs.Timed.{timed, well_shaped};
+ghost use Rattle.schedule.specs.Pairs.{tasks_in, timed_in};
+ghost use Rattle.schedule.specs.Timed.{well_shaped};
 
-use book::task::Task;
+use crate::timed_tasks::TimedTasks;
 
-/// Whether there is one time for each task, and none is 0.
-pub(crate) fn is_well_shaped(tasks: &[Task], times: &[u32]) -> bool
-    ensures { result ≡ well_shaped (map record_of tasks.now) times.now }
-{
-    if times.len() != tasks.len() {
-        return false;
+impl TimedTasks<'_> {
+    /// Whether there is one time for each task, and none is 0.
+    pub(crate) fn is_well_shaped(self) -> bool
+        ensures { result ≡ well_shaped (tasks_in self.entry) self.entry.times.now }
+    {
+        self.times.len() == self.tasks.len() && self.times.iter().all(|time| *time > 0)
     }
-    for time in times {
-        if *time == 0 {
-            return false;
-        }
-    }
-    true
-}
 
-/// Whether no time exceeds its task's deadline.
-pub(crate) fn is_timely(tasks: &[Task], times: &[u32]) -> bool
-    requires same { length times.now ≡ length tasks.now }
-    ensures { Exactly result (AllTimely (timed (map record_of tasks.now) times.now)) }
-{
-    for (i, task) in tasks.iter().enumerate() {
-        if times[i] > task.deadline {
-            return false;
-        }
+    /// Whether no time exceeds its task's deadline.
+    pub(crate) fn is_timely(self) -> bool
+        ensures { Exactly result (AllTimely (timed_in self.entry)) }
+    {
+        self.tasks
+            .iter()
+            .zip(self.times)
+            .all(|(task, time)| *time <= task.deadline)
     }
-    true
 }

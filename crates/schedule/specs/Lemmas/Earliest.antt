@@ -1,7 +1,7 @@
 -- The earliest-deadline test: one hyperperiod decides all instants, and the test keeps the laws of a test.
 use Rattle.std.specs.Prelude.{◌≡◌, ℕ, zero, suc, ◌<◌, ◌≤◌, Bool, true, false, List, [], ◌∷◌, map, length, nat_le, slice_index, refl}
 use Rattle.std.proofs.Common.{sym, ap, subst, ◌∙◌, inl, inr, arith}
-use Rattle.std.proofs.lemmas.Bool.{cases_eq, and_parts, and_from, both_ways, false≢true, leb-true, le-leb}
+use Rattle.std.proofs.lemmas.Bool.{false_from_ne_true, cases_eq, and_parts, and_from, both_ways, false≢true, leb-true, le-leb}
 use Rattle.book.specs.Classes.{work_in}
 use Rattle.book.specs.Hyperperiod.{AllDivide, hyperperiod}
 use Rattle.book.specs.Keeping.{AllKeep}
@@ -13,7 +13,7 @@ use Rattle.schedule.specs.EarliestDeadline.{AlwaysMet, every_to, earliest_deadli
 use Rattle.schedule.specs.Laws.{Shorter, Lawful, Exactly}
 use Rattle.schedule.specs.Timed.{timed, well_shaped, deadline_at}
 use Rattle.schedule.specs.Lemmas.Bounds.{work_requested}
-use Rattle.schedule.specs.Lemmas.Shapes.{false_from, shaped_parts, shorter_shaped}
+use Rattle.schedule.specs.Lemmas.Shapes.{shaped_parts, shorter_shaped}
 use Rattle.schedule.specs.Lemmas.Sums.{formed, enough, whole, demand_shorter, met_timely, timely_at}
 
 -- the periods of a book's tasks are at least 1
@@ -82,10 +82,10 @@ always_timely ts xs w m i l =
 pub earliest_lawful : Lawful (λ l xs. earliest_deadline l.tasks xs)
 earliest_lawful = record {
   shorter_passes = λ l k xs ys s e. earliest_from l.tasks ys (always_shorter l.tasks xs ys s (earliest_true l.tasks xs k.tasks_keep e));
-  late_fails = λ l k xs place h late. false_from (earliest_deadline l.tasks xs) (λ e.
+  late_fails = λ l k xs place h late. false_from_ne_true (earliest_deadline l.tasks xs) (λ e.
       let a = always_timely l.tasks xs k.tasks_keep (earliest_true l.tasks xs k.tasks_keep e) place h in
       omega arith);
-  misshapen_fails = λ l k xs m. false_from (earliest_deadline l.tasks xs) (λ e.
+  misshapen_fails = λ l k xs m. false_from_ne_true (earliest_deadline l.tasks xs) (λ e.
       both_ways (well_shaped l.tasks xs) m (earliest_true l.tasks xs k.tasks_keep e).shaped);
 }
 
@@ -96,7 +96,7 @@ earliest_answer ts xs answer keep e = subst (λ b. Exactly b (AlwaysMet ts xs)) 
 -- an answer that decides the condition is the test's
 pub earliest_is : (ts : List TaskRecord) (xs : List ℕ) (answer : Bool) → AllKeep ts → Exactly answer (AlwaysMet ts xs) → answer ≡ earliest_deadline ts xs
 earliest_is ts xs true keep d = sym ((earliest_exactly ts xs keep).1 (d.0 refl))
-earliest_is ts xs false keep d = sym (false_from (earliest_deadline ts xs) (λ e. false≢true (d.1 ((earliest_exactly ts xs keep).0 e))))
+earliest_is ts xs false keep d = sym (false_from_ne_true (earliest_deadline ts xs) (λ e. false≢true (d.1 ((earliest_exactly ts xs keep).0 e))))
 
 module _ (ts : List TaskRecord) (xs : List ℕ) (keep : AllKeep ts) where
   never : (AlwaysMet ts xs → ⊥) → Exactly false (AlwaysMet ts xs)

@@ -2,17 +2,19 @@
 use Rattle.std.specs.Prelude.{◌≡◌, ℕ, zero, suc, ◌+◌, ◌*◌, ◌<◌, ◌≤◌, Bool, true, false, cond, List, [], ◌∷◌, map, length, get_or, take, is_some, Some, None, Option, nat_lt, slice_index, slice_index_or, refl}
 use Rattle.std.proofs.Common.{sym, ap, subst, ◌∙◌, ⊎_elim, mul-le-mul, suc-add, arith}
 use Rattle.std.proofs.lemmas.List.{get_or-map, get_or_past, length-map}
-use Rattle.std.proofs.lemmas.Bool.{and_parts, and_from, and_left, cases_lt, cond_both, cond-true, cond-false, lt-ltb, le-ltb, false≢true}
+use Rattle.std.proofs.lemmas.Bool.{false_from_ne_true, and_parts, and_from, and_left, cases_lt, cond_both, cond-true, cond-false, lt-ltb, le-ltb, false≢true}
+use Rattle.std.proofs.lemmas.List.Sums.{AllPass-from_list_all}
+use Rattle.std.specs.List.{list_all}
 use Rattle.book.specs.Keeping.{AllKeep}
 use Rattle.book.specs.Ledger.{TaskRecord, number_of}
 use Rattle.book.specs.Rules.{Ascending}
 use Rattle.schedule.specs.Demands.{releases, requested}
-use Rattle.schedule.specs.FixedPriority.{higher, response_demand, Responds, Each, EachResponds, LeastResponse, response, each, fixed_priority, fixed_priority_told, response_at}
+use Rattle.schedule.specs.FixedPriority.{higher, response_demand, Responds, Each, EachResponds, LeastResponse, response, fixed_priority, fixed_priority_told, response_at}
 use Rattle.schedule.specs.Laws.{Shorter, Lawful, Exactly, Tells}
 use Rattle.schedule.specs.Least.{Least}
 use Rattle.schedule.specs.Timed.{Timed, timed, well_shaped, deadline_at}
 use Rattle.schedule.specs.Lemmas.Sums.{requested_grows}
-use Rattle.schedule.specs.Lemmas.Shapes.{deadlines_short, false_from, shaped_parts, shorter_shaped}
+use Rattle.schedule.specs.Lemmas.Shapes.{deadlines_short, shaped_parts, shorter_shaped}
 use Rattle.schedule.specs.Lemmas.Solutions.{least_is, least_shorter, least_some_from, some_least}
 
 -- the timed tasks bear the numbers of the tasks
@@ -83,24 +85,18 @@ higher_before (q ∷ ks) (suc i) k up h e =
     ∙ ap (λ hs. q ∷ hs) (higher_before ks i k (rest_ascends q.number (map (λ (j : Timed). j.number) ks) up) l e)
 
 -- where the tests of all tasks pass, what each test tells holds of each
-each_to : (p : Timed → Bool) (P : Timed → Type 0) → ((k : Timed) → p k ≡ true → P k) → (ks : List Timed) → each p ks ≡ true → Each P ks
+each_to : (p : Timed → Bool) (P : Timed → Type 0) → ((k : Timed) → p k ≡ true → P k) → (ks : List Timed) → list_all p ks ≡ true → Each P ks
 each_to p P f [] e = tt
-each_to p P f (k ∷ ks) e = let q = and_parts (p k) (each p ks) e in (f k q.0, each_to p P f ks q.1)
+each_to p P f (k ∷ ks) e = let q = and_parts (p k) (list_all p ks) e in (f k q.0, each_to p P f ks q.1)
 
 -- where a fact holds of each task, the tests that it gives pass
-each_from : (p : Timed → Bool) (P : Timed → Type 0) → ((k : Timed) → P k → p k ≡ true) → (ks : List Timed) → Each P ks → each p ks ≡ true
+each_from : (p : Timed → Bool) (P : Timed → Type 0) → ((k : Timed) → P k → p k ≡ true) → (ks : List Timed) → Each P ks → list_all p ks ≡ true
 each_from p P f [] a = refl
-each_from p P f (k ∷ ks) a = and_from (p k) (each p ks) (f k a.0) (each_from p P f ks a.1)
-
--- where the tests of all tasks pass, that of the task at a place does
-each_at : (p : Timed → Bool) (ks : List Timed) (i : ℕ) (d : Timed) → each p ks ≡ true → i < length ks → p (slice_index_or ks i d) ≡ true
-each_at p [] i d e h = absurd (omega arith)
-each_at p (k ∷ ks) zero d e h = (and_parts (p k) (each p ks) e).0
-each_at p (k ∷ ks) (suc i) d e h = each_at p ks i d (and_parts (p k) (each p ks) e).1 (omega arith)
+each_from p P f (k ∷ ks) a = and_from (p k) (list_all p ks) (f k a.0) (each_from p P f ks a.1)
 
 -- a passing list is well shaped, and each task has a response time
-fixed_parts : (ts : List TaskRecord) (xs : List ℕ) → fixed_priority ts xs ≡ true → (well_shaped ts xs ≡ true) × (each (λ k. is_some (response (timed ts xs) k)) (timed ts xs) ≡ true)
-fixed_parts ts xs e = and_parts (well_shaped ts xs) (each (λ k. is_some (response (timed ts xs) k)) (timed ts xs)) e
+fixed_parts : (ts : List TaskRecord) (xs : List ℕ) → fixed_priority ts xs ≡ true → (well_shaped ts xs ≡ true) × (list_all (λ k. is_some (response (timed ts xs) k)) (timed ts xs) ≡ true)
+fixed_parts ts xs e = and_parts (well_shaped ts xs) (list_all (λ k. is_some (response (timed ts xs) k)) (timed ts xs)) e
 
 -- the test decides its condition
 pub fixed_exactly : (ts : List TaskRecord) (xs : List ℕ) → Exactly (fixed_priority ts xs) (EachResponds ts xs)
@@ -113,7 +109,7 @@ fixed_exactly ts xs =
         responds = each_to p P (λ k q. let s = some_least k.deadline (response_demand ks k) q in
             (s.0, record { from_one = s.1; in_time = s.2; solves = s.3 })) ks (fixed_parts ts xs e).1;
       }),
-      (λ r. and_from (well_shaped ts xs) (each p ks) r.shaped
+      (λ r. and_from (well_shaped ts xs) (list_all p ks) r.shaped
           (each_from p P (λ k q. least_some_from k.deadline (response_demand ks k) q.0 q.1.from_one q.1.in_time q.1.solves) ks r.responds)),
     )
 
@@ -137,7 +133,7 @@ requested_shorter n (r ∷ ts) (x ∷ xs) (y ∷ ys) t w =
     (higher n (timed ts ys)) (higher n (timed ts xs)) t refl w.1 (requested_shorter n ts xs ys t w.2)
 
 -- what goes from each task at its time to the same task at its shorter time goes from list to list
-each_shorter : (p q : Timed → Bool) → ((r : TaskRecord) (x y : ℕ) → 1 ≤ y → y ≤ x → p (record { number = r.number; period = r.period; deadline = r.deadline; time = x }) ≡ true → q (record { number = r.number; period = r.period; deadline = r.deadline; time = y }) ≡ true) → (ts : List TaskRecord) (xs ys : List ℕ) → Shorter ys xs → each p (timed ts xs) ≡ true → each q (timed ts ys) ≡ true
+each_shorter : (p q : Timed → Bool) → ((r : TaskRecord) (x y : ℕ) → 1 ≤ y → y ≤ x → p (record { number = r.number; period = r.period; deadline = r.deadline; time = x }) ≡ true → q (record { number = r.number; period = r.period; deadline = r.deadline; time = y }) ≡ true) → (ts : List TaskRecord) (xs ys : List ℕ) → Shorter ys xs → list_all p (timed ts xs) ≡ true → list_all q (timed ts ys) ≡ true
 each_shorter p q f [] xs ys w e = refl
 each_shorter p q f (r ∷ ts) [] [] w e = refl
 each_shorter p q f (r ∷ ts) [] (y ∷ ys) w e = elim w [ ]
@@ -145,15 +141,15 @@ each_shorter p q f (r ∷ ts) (x ∷ xs) [] w e = elim w [ ]
 each_shorter p q f (r ∷ ts) (x ∷ xs) (y ∷ ys) w e =
     let k : Timed = record { number = r.number; period = r.period; deadline = r.deadline; time = x } in
     let j : Timed = record { number = r.number; period = r.period; deadline = r.deadline; time = y } in
-    let a = and_parts (p k) (each p (timed ts xs)) e in
-    and_from (q j) (each q (timed ts ys)) (f r x y w.0 w.1 a.0) (each_shorter p q f ts xs ys w.2 a.1)
+    let a = and_parts (p k) (list_all p (timed ts xs)) e in
+    and_from (q j) (list_all q (timed ts ys)) (f r x y w.0 w.1 a.0) (each_shorter p q f ts xs ys w.2 a.1)
 
 -- shorter times pass where longer ones do
 fixed_shorter : (ts : List TaskRecord) (xs ys : List ℕ) → Shorter ys xs → fixed_priority ts xs ≡ true → fixed_priority ts ys ≡ true
 fixed_shorter ts xs ys w e =
     let p : Timed → Bool = λ k. is_some (response (timed ts xs) k) in
     let q : Timed → Bool = λ k. is_some (response (timed ts ys) k) in
-    and_from (well_shaped ts ys) (each q (timed ts ys)) (shorter_shaped ts xs ys w (fixed_parts ts xs e).0)
+    and_from (well_shaped ts ys) (list_all q (timed ts ys)) (shorter_shaped ts xs ys w (fixed_parts ts xs e).0)
     (each_shorter p q
     (λ r x y a b. least_shorter (λ t. y + requested (higher r.number (timed ts ys)) t) (λ t. x + requested (higher r.number (timed ts xs)) t) r.deadline
     (λ t h. omega arith)
@@ -169,7 +165,7 @@ fixed_timely ts xs place e h =
     let long = (shaped_parts ts xs (fixed_parts ts xs e).0).0 in
     let l : place < length ts = omega (arith, long) in
     let k : Timed = get_or ks place d in
-    let a = each_at (λ j. is_some (response ks j)) ks place d (fixed_parts ts xs e).1 (omega (arith, timed_long ts xs long)) in
+    let a = AllPass-from_list_all (λ j. is_some (response ks j)) ks (fixed_parts ts xs e).1 place d (omega (arith, timed_long ts xs long)) in
     let s = some_least k.deadline (response_demand ks k) a in
     omega (arith, s.2, s.3, timed_time ts xs place d 0 long l, timed_deadline ts xs place d long l)
 
@@ -177,8 +173,8 @@ fixed_timely ts xs place e h =
 pub fixed_lawful : Lawful (λ l xs. fixed_priority l.tasks xs)
 fixed_lawful = record {
   shorter_passes = λ l keeps xs ys w e. fixed_shorter l.tasks xs ys w e;
-  late_fails = λ l keeps xs place h late. false_from (fixed_priority l.tasks xs) (λ e. omega (arith, fixed_timely l.tasks xs place e h));
-  misshapen_fails = λ l keeps xs e. and_left (well_shaped l.tasks xs) (each (λ k. is_some (response (timed l.tasks xs) k)) (timed l.tasks xs)) e;
+  late_fails = λ l keeps xs place h late. false_from_ne_true (fixed_priority l.tasks xs) (λ e. omega (arith, fixed_timely l.tasks xs place e h));
+  misshapen_fails = λ l keeps xs e. and_left (well_shaped l.tasks xs) (list_all (λ k. is_some (response (timed l.tasks xs) k)) (timed l.tasks xs)) e;
 }
 
 -- a least solution that is some is a time as a timing test tells it
@@ -201,7 +197,7 @@ fixed_tells ts xs place =
     rw (get_or-map (response ks) ks place d None l)
     (some_told (fixed_priority ts xs) ts place k.deadline (response_demand ks k) (response ks k) e h (timed_deadline ts xs place d long h)
     (least_is k.deadline (response_demand ks k))
-    (each_at (λ j. is_some (response ks j)) ks place d (fixed_parts ts xs e).1 l)))
+    (AllPass-from_list_all (λ j. is_some (response ks j)) ks (fixed_parts ts xs e).1 place d l)))
     (λ (h : length ts ≤ place). rw (get_or_past (map (response ks) ks) place None (omega (arith, many, length-map ks (response ks)))) (λ q. h))
     (cases_lt place (length ts)))
     (λ e q. absurd (false≢true (sym e ∙ q)))
@@ -213,9 +209,6 @@ fixed_answer ts xs answer e = subst (λ b. Exactly b (EachResponds ts xs)) (sym 
 -- what it tells keeps what a timing test owes
 pub told_answer : (ts : List TaskRecord) (xs : List ℕ) (place : ℕ) (r : Option ℕ) → r ≡ fixed_priority_told ts xs place → Tells (fixed_priority ts xs) ts place r
 told_answer ts xs place r e = subst (λ o. Tells (fixed_priority ts xs) ts place o) (sym e) (fixed_tells ts xs place)
-
-pub told_failed : (ts : List TaskRecord) (xs : List ℕ) (place : ℕ) → false ≡ fixed_priority ts xs → None ≡ fixed_priority_told ts xs place
-told_failed ts xs place e = sym (cond-false (fixed_priority ts xs) (response_at ts xs place) None (sym e))
 
 pub told_passed : (ts : List TaskRecord) (xs : List ℕ) (place : ℕ) (r : Option ℕ) → true ≡ fixed_priority ts xs → r ≡ response_at ts xs place → r ≡ fixed_priority_told ts xs place
 told_passed ts xs place r e is = is ∙ sym (cond-true (fixed_priority ts xs) (response_at ts xs place) None (sym e))

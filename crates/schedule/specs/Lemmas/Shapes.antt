@@ -1,18 +1,11 @@
 -- Lists of times by their shape: one time for each task, none 0, and shorter lists.
-use Rattle.std.specs.Prelude.{◌≡◌, ℕ, zero, suc, ◌<◌, ◌≤◌, Bool, true, false, List, [], ◌∷◌, length, ◌==◌, ◌≢◌, nat_lt, slice_index, refl}
-use Rattle.std.proofs.Common.{◌∙◌, inl, inr, arith}
-use Rattle.std.proofs.lemmas.Bool.{cases_Bool, and_parts, and_from, eqb-true, eq-eqb, ltb-true, lt-ltb}
+use Rattle.std.specs.Prelude.{◌≡◌, ℕ, zero, suc, ◌<◌, ◌≤◌, true, List, [], ◌∷◌, length, ◌==◌, nat_lt, slice_index, refl}
+use Rattle.std.proofs.Common.{◌∙◌, arith}
+use Rattle.std.proofs.lemmas.Bool.{and_parts, and_from, eqb-true, eq-eqb, ltb-true, lt-ltb}
 use Rattle.book.specs.Keeping.{AllKeep}
 use Rattle.book.specs.Ledger.{TaskRecord}
 use Rattle.schedule.specs.Laws.{Shorter}
 use Rattle.schedule.specs.Timed.{deadline_at, nowhere_zero, well_shaped}
-
--- what cannot be true is false
-pub false_from : (b : Bool) → (b ≢ true) → b ≡ false
-false_from b h = elim (cases_Bool b) [
-  | inl e ↦ absurd (h e)
-  | inr e ↦ e
-]
 
 -- a well-shaped list has one time for each task, and none is 0
 pub shaped_parts : (ts : List TaskRecord) (xs : List ℕ) → well_shaped ts xs ≡ true → (length xs ≡ length ts) × (nowhere_zero xs ≡ true)

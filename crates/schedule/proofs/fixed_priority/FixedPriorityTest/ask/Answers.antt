@@ -1,53 +1,29 @@
-use Rattle.std.proofs.Common.{true, false, map, is_some, Some, None, sym, refl, ap, ◌∙◌, arith}
-use Rattle.std.proofs.lemmas.Bool.{and_left}
+use Rattle.std.proofs.Common.{true, false, map, Some, None, sym, refl, ap, ◌∙◌}
 use Rattle.book.proofs.Keeps.{all_keep}
 use Rattle.book.specs.Books.{holds}
 use Rattle.book.specs.Held.{record_of}
-use Rattle.schedule.specs.FixedPriority.{each, fixed_priority, response}
-use Rattle.schedule.specs.Timed.{timed, well_shaped}
+use Rattle.schedule.specs.FixedPriority.{fixed_priority}
 use Rattle.schedule.specs.Lemmas.Fixed.{fixed_answer, fixed_lawful}
-use Rattle.schedule.proofs.Responding.{not_before_next, not_before_none, response_short, responds_all, responds_step, responds_stop}
+use Rattle.schedule.proofs.Responding.{not_before_next, response_short, responds_all, responds_step, responds_stop}
 use Rattle.schedule.proofs.Slices.{slice_ascends, slice_here, slice_past}
 use Rattle.schedule.proofs.fixed_priority.FixedPriorityTest.ask.Goals as goal
 
-pub response_time-requires : goal.response_time-requires
-response_time-requires c =
-    let v = c.tasks-tasks.ensures in
-    record {
-      ascending = slice_ascends c.tasks-tasks.result.now (holds c.args.book.now) v.value v.keeps;
-      shaped = sym c.if-not-is_well_shaped.ensures;
-      here = c.loop-place-test.true;
-      within = c.loop-place.invariant.1;
-      later = c.loop-place.invariant.2;
-    }
-
-pub returns-then-not-is_well_shaped : goal.returns-then-not-is_well_shaped
-returns-then-not-is_well_shaped c =
-    let rs = map record_of c.tasks-tasks.result.now in
+pub returns-in_default : goal.returns-in_default
+returns-in_default c =
+    let ts = c.tasks.result.now in
     let xs = c.args.times.now in
-    let e = sym (and_left (well_shaped rs xs) (each (λ k. is_some (response (timed rs xs) k)) (timed rs xs)) (sym c.if-not-is_well_shaped.ensures))
-    ∙ ap (λ us. fixed_priority us xs) c.tasks-tasks.ensures.value in
-    record { value = e; lawful = fixed_lawful; exact = fixed_answer (holds c.args.book.now).tasks xs false e }
-
-pub loop-place-init : goal.loop-place-init
-loop-place-init c = (refl, omega arith, not_before_none (map record_of c.tasks-tasks.result.now) c.args.times.now 0)
-
-pub returns-in-None : goal.returns-in-None
-returns-in-None c =
-    let ts = c.tasks-tasks.result.now in
-    let xs = c.args.times.now in
-    let v = c.tasks-tasks.ensures in
+    let v = c.tasks.ensures in
     let e = responds_stop (map record_of ts) xs (slice_ascends ts (holds c.args.book.now) v.value v.keeps) (sym c.if-not-is_well_shaped.ensures)
-    c.loop-place.place None (slice_here ts c.loop-place.place c.loop-place-test.true) c.in-None.ensures refl c.loop-place.invariant.0
+    c.loop-place.place None (slice_here ts c.loop-place.place c.loop-place-test.true) c.in_default.ensures refl c.loop-place.invariant.0
     ∙ ap (λ us. fixed_priority us xs) v.value in
     record { value = e; lawful = fixed_lawful; exact = fixed_answer (holds c.args.book.now).tasks xs false e }
 
 pub loop-place-preserved : goal.loop-place-preserved
 loop-place-preserved c =
-    let ts = c.tasks-tasks.result.now in
+    let ts = c.tasks.result.now in
     let l = holds c.args.book.now in
     let xs = c.args.times.now in
-    let v = c.tasks-tasks.ensures in
+    let v = c.tasks.ensures in
     let ascends = slice_ascends ts l v.value v.keeps in
     let shaped = sym c.if-not-is_well_shaped.ensures in
     let here = slice_here ts c.loop-place.place c.loop-place-test.true in
@@ -60,9 +36,9 @@ loop-place-preserved c =
 
 pub returns : goal.returns
 returns c =
-    let ts = c.tasks-tasks.result.now in
+    let ts = c.tasks.result.now in
     let xs = c.args.times.now in
-    let v = c.tasks-tasks.ensures in
+    let v = c.tasks.ensures in
     let e = responds_all (map record_of ts) xs (slice_ascends ts (holds c.args.book.now) v.value v.keeps) (sym c.if-not-is_well_shaped.ensures)
     c.loop-place.place (slice_past ts c.loop-place.place c.loop-place-test.false) c.loop-place.invariant.0
     ∙ ap (λ us. fixed_priority us xs) v.value in
