@@ -2,7 +2,7 @@
 ghost use Rattle.std.specs.Prelude.{◌≡◌, ◌+◌, ◌*◌, ◌≤◌, ◌++◌, map, length};
 ghost use Rattle.book.specs.Books.{holds};
 ghost use Rattle.book.specs.Held.{record_of};
-ghost use Rattle.report.specs.Held.{text_in};
+ghost use Rattle.report.specs.Held.{HasRoom, text_in};
 ghost use Rattle.report.specs.Texts.{book_text, fault_text, sheet_text, task_line, task_lines};
 
 use crate::text::Text;
@@ -13,7 +13,7 @@ use sheet::load::load;
 
 /// Appends the line of a task.
 fn put_task(text: &mut Text, task: &Task)
-    requires { text.old.count + 400 ≤ 8192 }
+    requires { HasRoom text.old 400 }
     ensures after { text_in text.new ≡ text_in text.old ++ task_line (record_of task.now) }
     ensures few { text.new.count ≤ text.old.count + 400 }
 {
@@ -27,7 +27,7 @@ fn put_task(text: &mut Text, task: &Task)
 
 /// Appends the lines of the tasks.
 fn put_tasks(text: &mut Text, tasks: &[Task])
-    requires { text.old.count + 400 * length tasks.now ≤ 8192 }
+    requires { HasRoom text.old (400 * length tasks.now) }
     ensures after { text_in text.new ≡ text_in text.old ++ task_lines (map record_of tasks.now) }
     ensures few { text.new.count ≤ text.old.count + 400 * length tasks.now }
 {

@@ -1,9 +1,10 @@
 // Appending to a text.
 ghost use Rattle.std.specs.Prelude.{◌≡◌, ◌+◌, ◌*◌, ◌≤◌, [], ◌++◌, length, decimal};
-ghost use Rattle.report.specs.Held.{text_in};
+ghost use Rattle.report.specs.Held.{HasRoom, text_in};
 ghost use Rattle.report.specs.Texts.{spaced};
 
-use crate::text::Text;
+use crate::text::{LONGEST_TEXT, Text};
+use itoa::Buffer;
 
 impl Text {
     /// The text of no byte.
@@ -11,7 +12,7 @@ impl Text {
         ensures { result.count ≡ 0 }
     {
         Text {
-            bytes: [0; 8192],
+            bytes: [0; LONGEST_TEXT],
             count: 0,
         }
     }
@@ -25,7 +26,7 @@ impl Text {
 
     /// Appends the bytes.
     pub(crate) fn put(&mut self, bytes: &[u8])
-        requires { self.old.count + length bytes.now ≤ 8192 }
+        requires { HasRoom self.old (length bytes.now) }
         ensures after { text_in self.new ≡ text_in self.old ++ bytes.now }
         ensures count { self.new.count ≡ self.old.count + length bytes.now }
     {
@@ -36,19 +37,16 @@ impl Text {
 
     /// Appends the number in decimal.
     pub(crate) fn put_number(&mut self, n: u64)
-        requires { self.old.count + length (decimal n) ≤ 8192 }
+        requires { HasRoom self.old (length (decimal n)) }
         ensures after { text_in self.new ≡ text_in self.old ++ decimal n }
         ensures count { self.new.count ≡ self.old.count + length (decimal n) }
     {
-        if n >= 10 {
-            self.put_number(n / 10);
-        }
-        self.put(&[b'0' + (n % 10) as u8]);
+        self.put(Buffer::new().format(n).as_bytes());
     }
 
     /// Appends a label and a number behind it.
     pub(crate) fn put_labelled(&mut self, label: &[u8], n: u64)
-        requires { self.old.count + (length label.now + 20) ≤ 8192 }
+        requires { HasRoom self.old (length label.now + 20) }
         ensures after { text_in self.new ≡ text_in self.old ++ (label.now ++ decimal n) }
         ensures few { self.new.count ≤ self.old.count + (length label.now + 20) }
     {
@@ -58,7 +56,7 @@ impl Text {
 
     /// Appends the times with a space before each.
     pub(crate) fn put_times(&mut self, times: &[u32])
-        requires { self.old.count + 21 * length times.now ≤ 8192 }
+        requires { HasRoom self.old (21 * length times.now) }
         ensures after { text_in self.new ≡ text_in self.old ++ spaced times.now }
         ensures few { self.new.count ≤ self.old.count + 21 * length times.now }
     {

@@ -1,11 +1,7 @@
-use Rattle.std.proofs.Common.{◌++◌, sym, ap, ◌∙◌, arith}
-use Rattle.std.proofs.lemmas.List.{append-nil, take_all}
+use Rattle.std.proofs.Common.{arith}
 use Rattle.report.specs.Held.{text_in}
 use Rattle.report.proofs.Puts.{line_of, lines_joins, lines_of, lines_one, puts_more}
 use Rattle.report.proofs.describe.put_tasks.Goals as goal
-
-pub loop-task-init : goal.loop-task-init
-loop-task-init c = (sym (append-nil (text_in c.args.text.now)), omega arith)
 
 pub loop-task-preserved : goal.loop-task-preserved
 loop-task-preserved c = (
@@ -13,11 +9,3 @@ loop-task-preserved c = (
       (text_in c.loop-task.text) (text_in c.put_task.new.text) (omega arith) c.task-item.is c.loop-task.invariant.0 c.put_task.ensures.after,
   omega (arith, c.loop-task.invariant.1, c.put_task.ensures.few),
 )
-
-pub returns : goal.returns
-returns c =
-    let all = take_all c.loop-task.task-index c.args.tasks.now (omega arith) in
-    record {
-      after = c.loop-task.invariant.0 ∙ ap (λ ts. text_in c.args.text.now ++ lines_of ts) all;
-      few = omega (arith, c.loop-task.invariant.1);
-    }

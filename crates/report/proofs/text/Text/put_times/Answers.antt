@@ -1,12 +1,9 @@
-use Rattle.std.proofs.Common.{◌∷◌, ◌++◌, get_or, decimal, sym, ap, ◌∙◌, arith}
-use Rattle.std.proofs.lemmas.List.{append-nil, get_or_default, take_all}
+use Rattle.std.proofs.Common.{◌∷◌, get_or, decimal, arith}
+use Rattle.std.proofs.lemmas.List.{get_or_default}
 use Rattle.report.specs.Held.{text_in}
 use Rattle.report.specs.Texts.{spaced}
 use Rattle.report.proofs.Puts.{puts_more, spaced_joins, spaced_one}
 use Rattle.report.proofs.text.Text.put_times.Goals as goal
-
-pub loop-time-init : goal.loop-time-init
-loop-time-init c = (sym (append-nil (text_in c.args.self.now)), omega arith)
 
 pub loop-time-preserved : goal.loop-time-preserved
 loop-time-preserved c =
@@ -16,11 +13,3 @@ loop-time-preserved c =
           (text_in c.put_labelled.new.self) (omega arith) (get_or_default ts i 0 (get_or ts i 0) (omega arith)) c.loop-time.invariant.0 c.put_labelled.ensures.after,
       omega (arith, c.loop-time.invariant.1, c.put_labelled.ensures.few),
     )
-
-pub returns : goal.returns
-returns c =
-    let all = take_all c.loop-time.time-index c.args.times.now (omega arith) in
-    record {
-      after = c.loop-time.invariant.0 ∙ ap (λ ts. text_in c.args.self.now ++ spaced ts) all;
-      few = omega (arith, c.loop-time.invariant.1);
-    }
