@@ -1,6 +1,7 @@
 // The questions: a book, and the lists of times that a test is asked about.
 use anyhow::anyhow;
 use book::book::Book;
+use book::new_task::NewTask;
 use schedule::test::Test;
 use std::alloc::Global;
 
@@ -8,7 +9,8 @@ use std::alloc::Global;
 #[derive(Drop)]
 pub(crate) struct Questions {
     book: Book,
-    /// The lists end to end, each as long as the book's tasks are many.
+    /// The lists end to end, each as long as the book's tasks are many, as `chunks` cuts them. A list of lists would count those of
+    /// no time too, and change what is printed where there is no task.
     lists: Vec<u32>,
 }
 
@@ -23,10 +25,13 @@ impl Questions {
 
     /// Enters a task. Its row is of no use here: the times come with the lists.
     pub(crate) fn enter(&mut self, number: u8, period: u32, deadline: u32) -> anyhow::Result<()> {
-        match self.book.enter(number, period, deadline, &[1]) {
-            Ok(()) => Ok(()),
-            Err(refusal) => Err(anyhow!("{}", refusal.word())),
-        }
+        self.book.enter(NewTask {
+            number,
+            period,
+            deadline,
+            times: &[1],
+        })?;
+        Ok(())
     }
 
     /// Adds a list, which has a time for each task that was entered.
@@ -57,9 +62,8 @@ impl Questions {
 
 /// How many of the lists, which stand end to end, pass the test.
 fn count_passes<T: Test>(test: &T, book: &Book, lists: &[u32]) -> u64 {
-    let mut yes: u64 = 0;
-    for times in lists.chunks(book.task_count().max(1)) {
-        yes = yes.wrapping_add(test.ask(book, times) as u64);
-    }
-    yes
+    lists
+        .chunks(book.task_count().max(1))
+        .filter(|times| test.ask(book, times))
+        .count() as u64
 }

@@ -1,16 +1,11 @@
 // Amending one time of one task.
-use crate::common::{done, refused, two_tasks};
+use crate::common::{refused, two_tasks};
 use book::book::Book;
 use std::test::Fail;
 
-/// The time of the second task of the two-task book at a class.
-fn time(book: &Book, class: usize) -> u32 {
-    let tasks = book.tasks();
-    if tasks.len() < 2 {
-        return 0;
-    }
-    let times = tasks[1].row.times();
-    if class < times.len() { times[class] } else { 0 }
+/// The time of the second task at a class.
+fn time(book: &Book, class: usize) -> Option<u32> {
+    book.tasks().get(1)?.row.times().get(class).copied()
 }
 
 #[test]
@@ -40,20 +35,20 @@ fn amend_checks_10_5_6_7() -> Result<(), Fail> {
 fn amend_at_the_first_and_the_last_class(rt: HostRuntime) -> Result<(), Fail> {
     let mut book = two_tasks()?;
     // class 0 has no time before it, the last none after it
-    done(book.amend(2, 0, 1_000_000))?;
-    assert_eq!(rt; time(&book, 0), 1_000_000);
-    done(book.amend(2, 3, 1))?;
-    assert_eq!(rt; time(&book, 3), 1);
-    assert_eq!(rt; time(&book, 1), 9);
+    book.amend(2, 0, 1_000_000)?;
+    assert_eq!(rt; time(&book, 0), Some(1_000_000));
+    book.amend(2, 3, 1)?;
+    assert_eq!(rt; time(&book, 3), Some(1));
+    assert_eq!(rt; time(&book, 1), Some(9));
     Ok(())
 }
 
 #[test]
 fn amend_may_meet_its_neighbours(rt: HostRuntime) -> Result<(), Fail> {
     let mut book = two_tasks()?;
-    done(book.amend(2, 1, 12))?;
-    done(book.amend(2, 1, 9))?;
-    done(book.amend(2, 2, 5))?;
-    assert_eq!(rt; time(&book, 2), 5);
+    book.amend(2, 1, 12)?;
+    book.amend(2, 1, 9)?;
+    book.amend(2, 2, 5)?;
+    assert_eq!(rt; time(&book, 2), Some(5));
     Ok(())
 }

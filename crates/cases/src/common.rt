@@ -1,22 +1,12 @@
 // What the cases share.
 use book::book::Book;
+use book::new_task::NewTask;
 use book::refusal::Refusal;
 use std::test::Fail;
 
-/// The number of an answer: 0 where the call was done.
-pub(crate) fn number(answer: Result<(), Refusal>) -> u8 {
-    match answer {
-        Ok(()) => 0,
-        Err(refusal) => refusal.number(),
-    }
-}
-
-/// The call was done.
-pub(crate) fn done(answer: Result<(), Refusal>) -> Result<(), Fail> {
-    match answer {
-        Ok(()) => Ok(()),
-        Err(refusal) => Err(Fail::new(refusal.word())),
-    }
+/// The number of the refusal; none where the call was done.
+pub(crate) fn refusal<T: Drop>(answer: Result<T, Refusal>) -> Option<u8> {
+    answer.err().map(|refusal| refusal.number())
 }
 
 /// The call was refused by this number, and the whole book is as it was.
@@ -26,7 +16,7 @@ pub(crate) fn refused(
     before: &Book,
     after: &Book,
 ) -> Result<(), Fail> {
-    if number(answer) != by {
+    if refusal(answer) != Some(by) {
         return Err(Fail::new("the answer has another number"));
     }
     if before != after {
@@ -35,11 +25,21 @@ pub(crate) fn refused(
     Ok(())
 }
 
+/// A task that is to be entered.
+pub(crate) fn task(number: u8, period: u32, deadline: u32, times: &[u32]) -> NewTask<'_> {
+    NewTask {
+        number,
+        period,
+        deadline,
+        times,
+    }
+}
+
 /// The two-task book: cache 4, rows 4, 3, 2 and 12, 9, 9, 5.
 pub(crate) fn two_tasks() -> Result<Book, Fail> {
     let mut book = Book::new();
-    done(book.make(4))?;
-    done(book.enter(1, 10, 5, &[4, 3, 2]))?;
-    done(book.enter(2, 20, 20, &[12, 9, 9, 5]))?;
+    book.make(4)?;
+    book.enter(task(1, 10, 5, &[4, 3, 2]))?;
+    book.enter(task(2, 20, 20, &[12, 9, 9, 5]))?;
     Ok(book)
 }

@@ -1,5 +1,5 @@
 // Making a book, entering tasks and withdrawing them.
-use crate::common::{done, refused, two_tasks};
+use crate::common::{refused, task, two_tasks};
 use book::book::Book;
 use std::test::Fail;
 
@@ -9,7 +9,7 @@ fn a_cache_has_1_to_1024_sets(rt: HostRuntime) -> Result<(), Fail> {
     let before = book;
     refused(book.make(0), 1, &before, &book)?;
     refused(book.make(1025), 1, &before, &book)?;
-    done(book.make(1024))?;
+    book.make(1024)?;
     assert_eq!(rt; book.cache_size(), 1024);
     assert_eq!(rt; book.task_count(), 0);
     assert_eq!(rt; Book::new().cache_size(), 1);
@@ -38,7 +38,7 @@ fn enter_refuses_by_the_first_check_that_applies(rt: HostRuntime) -> Result<(), 
     for (number, period, deadline, [first, second], count, by) in cases {
         let times = [first, second, 0, 0, 0, 0, 0, 0, 0, 0, 0, 0];
         assert!(rt; count <= 12);
-        let answer = book.enter(number, period, deadline, &times[0..count]);
+        let answer = book.enter(task(number, period, deadline, &times[0..count]));
         refused(answer, by, &before, &book)?;
     }
     Ok(())
@@ -47,8 +47,8 @@ fn enter_refuses_by_the_first_check_that_applies(rt: HostRuntime) -> Result<(), 
 #[test]
 fn a_row_has_1_to_11_times(rt: HostRuntime) -> Result<(), Fail> {
     let mut book = Book::new();
-    done(book.enter(7, 1_000_000, 1, &[1_000_000]))?;
-    done(book.enter(9, 1, 1, &[11, 10, 9, 8, 7, 6, 5, 4, 3, 2, 1]))?;
+    book.enter(task(7, 1_000_000, 1, &[1_000_000]))?;
+    book.enter(task(9, 1, 1, &[11, 10, 9, 8, 7, 6, 5, 4, 3, 2, 1]))?;
     assert_eq!(rt; book.task_count(), 2);
     assert_eq!(rt; book.hyperperiod(), 1_000_000);
     Ok(())
@@ -58,14 +58,19 @@ fn a_row_has_1_to_11_times(rt: HostRuntime) -> Result<(), Fail> {
 fn a_book_has_sixteen_tasks_at_most(rt: HostRuntime) -> Result<(), Fail> {
     let mut book = Book::new();
     for number in 1..17u8 {
-        done(book.enter(17 - number, 100, 50, &[3, 2]))?;
+        book.enter(task(17 - number, 100, 50, &[3, 2]))?;
     }
     assert_eq!(rt; book.task_count(), 16);
     let before = book;
-    refused(book.enter(16, 100, 50, &[3, 2]), 8, &before, &book)?;
-    refused(book.enter(17, 100, 50, &[3, 2]), 9, &before, &book)?;
+    refused(book.enter(task(16, 100, 50, &[3, 2])), 8, &before, &book)?;
+    refused(book.enter(task(17, 100, 50, &[3, 2])), 9, &before, &book)?;
     // the count of tasks comes before the hyperperiod
-    refused(book.enter(18, 999_983, 50, &[3, 2]), 9, &before, &book)?;
+    refused(
+        book.enter(task(18, 999_983, 50, &[3, 2])),
+        9,
+        &before,
+        &book,
+    )?;
     let tasks = book.tasks();
     assert!(rt; tasks.len() == 16);
     assert_eq!(rt; tasks[0].number, 1);
@@ -76,12 +81,12 @@ fn a_book_has_sixteen_tasks_at_most(rt: HostRuntime) -> Result<(), Fail> {
 #[test]
 fn a_hyperperiod_is_at_most_10000000000(rt: HostRuntime) -> Result<(), Fail> {
     let mut book = Book::new();
-    done(book.enter(5, 100_000, 1, &[1]))?;
+    book.enter(task(5, 100_000, 1, &[1]))?;
     let before = book;
-    refused(book.enter(6, 100_001, 1, &[1]), 11, &before, &book)?;
-    done(book.enter(6, 99_999, 1, &[1]))?;
+    refused(book.enter(task(6, 100_001, 1, &[1])), 11, &before, &book)?;
+    book.enter(task(6, 99_999, 1, &[1]))?;
     assert_eq!(rt; book.hyperperiod(), 9_999_900_000);
-    done(book.withdraw(5))?;
+    book.withdraw(5)?;
     assert_eq!(rt; book.hyperperiod(), 99_999);
     Ok(())
 }
@@ -91,14 +96,14 @@ fn withdraw_takes_out_one_task(rt: HostRuntime) -> Result<(), Fail> {
     let mut book = two_tasks()?;
     let before = book;
     refused(book.withdraw(3), 10, &before, &book)?;
-    done(book.withdraw(1))?;
+    book.withdraw(1)?;
     assert_eq!(rt; book.task_count(), 1);
     assert_eq!(rt; book.hyperperiod(), 20);
-    done(book.enter(1, 10, 5, &[4, 3, 2]))?;
+    book.enter(task(1, 10, 5, &[4, 3, 2]))?;
     // equal books are equal values, whatever calls made them
     refused(book.withdraw(9), 10, &before, &book)?;
-    done(book.withdraw(2))?;
-    done(book.withdraw(1))?;
+    book.withdraw(2)?;
+    book.withdraw(1)?;
     assert_eq!(rt; book.hyperperiod(), 1);
     Ok(())
 }
@@ -107,10 +112,10 @@ fn withdraw_takes_out_one_task(rt: HostRuntime) -> Result<(), Fail> {
 fn append_wants_a_number_above_the_last(rt: HostRuntime) -> Result<(), Fail> {
     let mut book = two_tasks()?;
     let before = book;
-    refused(book.append(2, 10, 10, &[1]), 23, &before, &book)?;
-    refused(book.append(1, 10, 10, &[1]), 23, &before, &book)?;
-    refused(book.append(1, 10, 10, &[1, 2]), 7, &before, &book)?;
-    done(book.append(255, 10, 10, &[1]))?;
+    refused(book.append(task(2, 10, 10, &[1])), 23, &before, &book)?;
+    refused(book.append(task(1, 10, 10, &[1])), 23, &before, &book)?;
+    refused(book.append(task(1, 10, 10, &[1, 2])), 7, &before, &book)?;
+    book.append(task(255, 10, 10, &[1]))?;
     assert_eq!(rt; book.task_count(), 3);
     Ok(())
 }

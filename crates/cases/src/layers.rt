@@ -1,6 +1,6 @@
 // Charges, margins and piles of them.
+use crate::common::refusal;
 use crate::questions::book_of;
-use book::refusal::Refusal;
 use schedule::any_change::AnyChange;
 use schedule::charge::Charge;
 use schedule::earliest_deadline::EarliestDeadline;
@@ -12,44 +12,25 @@ use schedule::test::Test;
 use schedule::timing_test::TimingTest;
 use std::test::Fail;
 
-/// A charge that is to be made.
-fn charge(ticks: u32) -> Result<Charge, Fail> {
-    match Charge::new(ticks) {
-        Ok(charge) => Ok(charge),
-        Err(_) => Err(Fail::new("the charge was refused")),
-    }
-}
-
-/// A margin that is to be made.
-fn margin(thousandths: u32) -> Result<Margin, Fail> {
-    match Margin::new(thousandths) {
-        Ok(margin) => Ok(margin),
-        Err(_) => Err(Fail::new("the margin was refused")),
-    }
-}
-
-/// The number of the refusal, 0 for none.
-fn refusal<T: Copy>(made: Result<T, Refusal>) -> u8 {
-    match made {
-        Ok(_) => 0,
-        Err(refusal) => refusal.number(),
-    }
-}
-
 #[test]
 fn layers_are_made_within_their_ranges(rt: HostRuntime) {
-    for (ticks, by) in [(0, 0), (1_000, 0), (1_001, 24), (u32::MAX, 24)] {
-        assert_eq!(rt; refusal(Charge::new(ticks)), by);
+    for (ticks, by) in [
+        (0, None),
+        (1_000, None),
+        (1_001, Some(24)),
+        (u32::MAX, Some(24)),
+    ] {
+        assert_eq!(rt; refusal(Charge::try_from(ticks)), by);
     }
     for (thousandths, by) in [
-        (0, 25),
-        (999, 25),
-        (1_000, 0),
-        (4_000, 0),
-        (4_001, 25),
-        (u32::MAX, 25),
+        (0, Some(25)),
+        (999, Some(25)),
+        (1_000, None),
+        (4_000, None),
+        (4_001, Some(25)),
+        (u32::MAX, Some(25)),
     ] {
-        assert_eq!(rt; refusal(Margin::new(thousandths)), by);
+        assert_eq!(rt; refusal(Margin::try_from(thousandths)), by);
     }
 }
 
@@ -57,11 +38,11 @@ fn layers_are_made_within_their_ranges(rt: HostRuntime) {
 fn a_charge_is_paid_twice(rt: HostRuntime) -> Result<(), Fail> {
     let book = book_of(&[(10, 4)])?;
     let fixed = Layer {
-        change: charge(1)?,
+        change: Charge::try_from(1)?,
         below: FixedPriority,
     };
     let earliest = Layer {
-        change: charge(1)?,
+        change: Charge::try_from(1)?,
         below: EarliestDeadline,
     };
     for (time, passes) in [(0, false), (1, true), (2, true), (3, false)] {
@@ -80,18 +61,18 @@ fn the_outer_layer_changes_the_times_first(rt: HostRuntime) -> Result<(), Fail> 
     let book = book_of(&[(10, 10)])?;
     // 3 * 1.5 rounded up is 5, and 2 more is 7
     let margin_outside = Layer {
-        change: margin(1_500)?,
+        change: Margin::try_from(1_500)?,
         below: Layer {
-            change: charge(1)?,
+            change: Charge::try_from(1)?,
             below: FixedPriority,
         },
     };
     assert!(rt; margin_outside.tell(&book, &[3], 0) == Some(7));
     // 3 and 2 is 5, and 5 * 1.5 rounded up is 8
     let charge_outside = Layer {
-        change: charge(1)?,
+        change: Charge::try_from(1)?,
         below: Layer {
-            change: margin(1_500)?,
+            change: Margin::try_from(1_500)?,
             below: FixedPriority,
         },
     };
@@ -104,18 +85,18 @@ fn a_margin_rounds_up_and_the_cap_comes_last(rt: HostRuntime) -> Result<(), Fail
     // 333,334 * 3 is 1,000,002; 1 * 1.001 rounded up is 2; 250,000 * 4 is 1,000,000, which a task may have
     let book = book_of(&[(1_000_000, 1_000_000)])?;
     let treble = Layer {
-        change: margin(3_000)?,
+        change: Margin::try_from(3_000)?,
         below: FixedPriority,
     };
     assert!(rt; treble.tell(&book, &[333_333], 0) == Some(999_999));
     assert!(rt; !treble.ask(&book, &[333_334]));
     let slightly = Layer {
-        change: margin(1_001)?,
+        change: Margin::try_from(1_001)?,
         below: FixedPriority,
     };
     assert!(rt; slightly.tell(&book, &[1], 0) == Some(2));
     let most = Layer {
-        change: margin(4_000)?,
+        change: Margin::try_from(4_000)?,
         below: FixedPriority,
     };
     assert!(rt; most.tell(&book, &[250_000], 0) == Some(1_000_000));
@@ -127,11 +108,11 @@ fn a_margin_rounds_up_and_the_cap_comes_last(rt: HostRuntime) -> Result<(), Fail
 #[test]
 fn a_pile_hands_its_times_down(rt: HostRuntime) -> Result<(), Fail> {
     let pile = Layer {
-        change: AnyChange::Margin(margin(1_500)?),
+        change: AnyChange::Margin(Margin::try_from(1_500)?),
         below: Layer {
-            change: AnyChange::Charge(charge(10)?),
+            change: AnyChange::Charge(Charge::try_from(10)?),
             below: Layer {
-                change: AnyChange::Margin(margin(2_000)?),
+                change: AnyChange::Margin(Margin::try_from(2_000)?),
                 below: FixedPriority,
             },
         },

@@ -1,21 +1,20 @@
 // Both tests and the search, asked about times whose answers are worked out by hand.
-use crate::common::done;
+use crate::common::task;
 use book::book::Book;
 use schedule::busy_period::BusyPeriod;
 use schedule::demand::least_solution;
 use schedule::earliest_deadline::EarliestDeadline;
 use schedule::fixed_priority::FixedPriority;
 use schedule::test::Test;
+use schedule::timed_tasks::TimedTasks;
 use schedule::timing_test::TimingTest;
 use std::test::Fail;
 
 /// A book of tasks 1, 2 and so on, each a period and a deadline.
 pub(crate) fn book_of(tasks: &[(u32, u32)]) -> Result<Book, Fail> {
     let mut book = Book::new();
-    let mut number = 0u8;
-    for (period, deadline) in tasks {
-        number = number.saturating_add(1);
-        done(book.enter(number, *period, *deadline, &[1]))?;
+    for (number, (period, deadline)) in (1u8..).zip(tasks) {
+        book.enter(task(number, *period, *deadline, &[1]))?;
     }
     Ok(book)
 }
@@ -28,22 +27,20 @@ fn asked(book: &Book, times: &[u32]) -> (bool, bool) {
     )
 }
 
-/// What fixed priority tells of the task at a place, 0 for none.
-fn told(book: &Book, times: &[u32], place: usize) -> u32 {
-    match FixedPriority.tell(book, times, place) {
-        Some(time) => time,
-        None => 0,
-    }
+/// The end of the synchronous busy period of the book's tasks at the times, up to the limit.
+fn busy_period(book: &Book, times: &[u32], limit: u64) -> Option<u64> {
+    let tasks = book.tasks();
+    least_solution(&BusyPeriod, TimedTasks { tasks, times }, limit)
 }
 
 #[test]
 fn one_task_responds_in_its_time_up_to_the_deadline(rt: HostRuntime) -> Result<(), Fail> {
     let book = book_of(&[(10, 4)])?;
     // the time, whether it passes, and the response
-    for (time, passes, response) in [(1, true, 1), (4, true, 4), (5, false, 0)] {
+    for (time, passes, response) in [(1, true, Some(1)), (4, true, Some(4)), (5, false, None)] {
         assert!(rt; asked(&book, &[time]) == (passes, passes));
-        assert_eq!(rt; told(&book, &[time], 0), response);
-        assert_eq!(rt; told(&book, &[time], 1), 0);
+        assert_eq!(rt; FixedPriority.tell(&book, &[time], 0), response);
+        assert_eq!(rt; FixedPriority.tell(&book, &[time], 1), None);
     }
     Ok(())
 }
@@ -53,11 +50,11 @@ fn a_release_at_the_end_of_a_response_does_not_count(rt: HostRuntime) -> Result<
     // At t = 20 the first task has released 2 jobs, not 3: 12 + 2 * 4 = 20.
     let book = book_of(&[(10, 5), (20, 20)])?;
     assert!(rt; asked(&book, &[4, 12]) == (true, true));
-    assert_eq!(rt; told(&book, &[4, 12], 0), 4);
-    assert_eq!(rt; told(&book, &[4, 12], 1), 20);
+    assert_eq!(rt; FixedPriority.tell(&book, &[4, 12], 0), Some(4));
+    assert_eq!(rt; FixedPriority.tell(&book, &[4, 12], 1), Some(20));
     let tighter = book_of(&[(10, 5), (20, 19)])?;
     assert!(rt; !FixedPriority.ask(&tighter, &[4, 12]));
-    assert_eq!(rt; told(&tighter, &[4, 12], 0), 0);
+    assert_eq!(rt; FixedPriority.tell(&tighter, &[4, 12], 0), None);
     Ok(())
 }
 
@@ -95,7 +92,7 @@ fn lists_of_another_shape_fail(rt: HostRuntime) -> Result<(), Fail> {
     for time in [0, 1_000_001, u32::MAX] {
         assert!(rt; asked(&book, &[1, time]) == (false, false));
         assert!(rt; asked(&book, &[time, 1]) == (false, false));
-        assert_eq!(rt; told(&book, &[time, 1], 1), 0);
+        assert_eq!(rt; FixedPriority.tell(&book, &[time, 1], 1), None);
     }
     Ok(())
 }
@@ -105,7 +102,7 @@ fn the_empty_list_passes_the_empty_book(rt: HostRuntime) {
     let book = Book::new();
     let empty: [u32; 0] = [];
     assert!(rt; asked(&book, &empty) == (true, true));
-    assert_eq!(rt; told(&book, &empty, 0), 0);
+    assert_eq!(rt; FixedPriority.tell(&book, &empty, 0), None);
     assert!(rt; asked(&book, &[1]) == (false, false));
 }
 
@@ -114,7 +111,10 @@ fn hyperperiods_at_the_limit_are_decided(rt: HostRuntime) -> Result<(), Fail> {
     // A hyperperiod of 9,999,900,000 ticks.
     let book = book_of(&[(100_000, 100_000), (99_999, 99_999)])?;
     assert!(rt; asked(&book, &[50_000, 49_999]) == (true, true));
-    assert_eq!(rt; told(&book, &[50_000, 49_999], 1), 99_999);
+    assert_eq!(rt;
+        FixedPriority.tell(&book, &[50_000, 49_999], 1),
+        Some(99_999)
+    );
     // 1/2 and 50,000/99,999 of the processor are more than all of it.
     assert!(rt; asked(&book, &[50_000, 50_000]) == (false, false));
     // 99,999 and 1 in 99,999 ticks are one too many.
@@ -125,15 +125,14 @@ fn hyperperiods_at_the_limit_are_decided(rt: HostRuntime) -> Result<(), Fail> {
 #[test]
 fn the_search_finds_the_least_solution_up_to_the_limit(rt: HostRuntime) -> Result<(), Fail> {
     let book = book_of(&[(10, 5), (20, 20)])?;
-    let tasks = book.tasks();
     // 4 + 5 = 9 ticks without a pause
-    assert!(rt; least_solution(&BusyPeriod, tasks, &[4, 5], 9) == Some(9));
-    assert!(rt; least_solution(&BusyPeriod, tasks, &[4, 5], u64::MAX) == Some(9));
-    assert!(rt; least_solution(&BusyPeriod, tasks, &[4, 5], 8) == None);
-    assert!(rt; least_solution(&BusyPeriod, tasks, &[4, 5], 0) == None);
+    assert!(rt; busy_period(&book, &[4, 5], 9) == Some(9));
+    assert!(rt; busy_period(&book, &[4, 5], u64::MAX) == Some(9));
+    assert!(rt; busy_period(&book, &[4, 5], 8) == None);
+    assert!(rt; busy_period(&book, &[4, 5], 0) == None);
     // more work than ticks, at any length: the demand outgrows every limit
-    assert!(rt; least_solution(&BusyPeriod, tasks, &[u32::MAX, 5], u64::MAX) == None);
+    assert!(rt; busy_period(&book, &[u32::MAX, 5], u64::MAX) == None);
     let other = book_of(&[(5, 5), (7, 7)])?;
-    assert!(rt; least_solution(&BusyPeriod, other.tasks(), &[2, 4], 35) == Some(14));
+    assert!(rt; busy_period(&other, &[2, 4], 35) == Some(14));
     Ok(())
 }

@@ -1,7 +1,6 @@
 // Loading and writing sheets.
-use crate::common::{done, two_tasks};
+use crate::common::{refusal, task, two_tasks};
 use book::book::Book;
-use sheet::fault::Fault;
 use sheet::load::load;
 use sheet::write::write;
 use std::test::Fail;
@@ -16,16 +15,9 @@ const TWO_TASKS: [u8; 51] = [
 fn refused(sheet: &[u8], by: u8, at: usize) -> Result<(), Fail> {
     let before = two_tasks()?;
     let mut book = before;
-    match load(&mut book, sheet) {
-        Ok(()) => return Err(Fail::new("the sheet loaded")),
-        Err(Fault { refusal, place }) => {
-            if refusal.number() != by {
-                return Err(Fail::new("the fault has another number"));
-            }
-            if place != at {
-                return Err(Fail::new("the fault is at another place"));
-            }
-        }
+    let fault = load(&mut book, sheet).err();
+    if fault.map(|fault| (fault.refusal.number(), fault.place)) != Some((by, at)) {
+        return Err(Fail::new("the sheet has another fault or none"));
     }
     if book != before {
         return Err(Fail::new("the book is not as it was"));
@@ -50,10 +42,7 @@ fn the_two_task_sheet_loads_and_is_written_back(rt: HostRuntime) -> Result<(), F
 fn a_short_buffer_is_left_as_it_was(rt: HostRuntime) -> Result<(), Fail> {
     let book = two_tasks()?;
     let mut buffer = [170u8; 50];
-    match write(&book, &mut buffer) {
-        Ok(_) => return Err(Fail::new("the buffer was long enough")),
-        Err(refusal) => assert_eq!(rt; refusal.number(), 19),
-    }
+    assert_eq!(rt; refusal(write(&book, &mut buffer)), Some(19));
     assert!(rt; buffer == [170u8; 50]);
     Ok(())
 }
@@ -121,8 +110,8 @@ fn records_are_refused_at_their_length_byte(rt: HostRuntime) -> Result<(), Fail>
 #[test]
 fn the_hyperperiod_is_read_on_the_earlier_records(rt: HostRuntime) -> Result<(), Fail> {
     let mut book = Book::new();
-    done(book.enter(5, 100_000, 1, &[1]))?;
-    done(book.enter(6, 99_999, 1, &[1]))?;
+    book.enter(task(5, 100_000, 1, &[1]))?;
+    book.enter(task(6, 99_999, 1, &[1]))?;
     let mut sheet = [0u8; 31];
     assert_eq!(rt; write(&book, &mut sheet).ok(), Some(31));
     // 99,999 is 0x1869f, and 100,001 is 0x186a1
@@ -136,23 +125,16 @@ fn repeat_record(sheet: &mut [u8], size: usize) -> Result<(), Fail> {
     if size > 54 || count < 108 {
         return Err(Fail::new("the sheet has no two records of this size"));
     }
-    for i in 0..size {
-        sheet[count - size + i] = sheet[count - 2 * size + i];
-    }
+    sheet.copy_within(count - 2 * size..count - size, count - size);
     Ok(())
 }
 
 /// A book of sixteen tasks with eleven times each.
 fn largest() -> Result<Book, Fail> {
     let mut book = Book::new();
-    done(book.make(1024))?;
-    for number in 240..256u16 {
-        done(book.enter(
-            (number & 255) as u8,
-            1000,
-            1000,
-            &[11, 10, 9, 8, 7, 6, 5, 4, 3, 2, 1],
-        ))?;
+    book.make(1024)?;
+    for number in 240..=255 {
+        book.enter(task(number, 1000, 1000, &[11, 10, 9, 8, 7, 6, 5, 4, 3, 2, 1]))?;
     }
     Ok(book)
 }
@@ -182,7 +164,7 @@ fn the_number_of_a_seventeenth_record_comes_first(rt: HostRuntime) -> Result<(),
 fn a_seventeenth_record_is_refused(rt: HostRuntime) -> Result<(), Fail> {
     let mut book = Book::new();
     for number in 1..17u8 {
-        done(book.enter(number, 100, 50, &[3]))?;
+        book.enter(task(number, 100, 50, &[3]))?;
     }
     let mut sheet = [0u8; 241];
     assert_eq!(rt; write(&book, &mut sheet).ok(), Some(227));

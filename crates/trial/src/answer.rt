@@ -1,31 +1,21 @@
 // The answers to the calls of a script.
 use book::book::Book;
-use book::limits::MOST_TASKS;
 use book::refusal::Refusal;
 use sheet::fault::Fault;
-
-/// What a call put into the front of a buffer, which has a place for each task that a book may have.
-#[derive(Drop)]
-pub struct Front<T> {
-    pub buffer: [T; MOST_TASKS],
-    pub count: usize,
-}
 
 /// What each of the calls on one class list answers.
 #[derive(Drop)]
 pub struct ListAnswers {
     pub list: Result<(), Refusal>,
-    pub sizes: Result<Front<u16>, Refusal>,
+    pub sizes: Result<Vec<u16>, Refusal>,
     pub fit: Result<(), Refusal>,
-    pub times: Result<Front<u32>, Refusal>,
+    pub times: Result<Vec<u32>, Refusal>,
     pub work: Result<u64, Refusal>,
 }
 
-/// The answer to one line of a script. Where the line may change the book, it has the whole book behind the call, so that a refusal shows that it changed nothing.
+/// The answer to one call of a script. Where the call may change the book, it has the whole book behind the call, so that a refusal shows that it changed nothing.
 #[derive(Drop)]
 pub enum Answer {
-    /// The line was no call.
-    Unread,
     Edit {
         result: Result<(), Refusal>,
         book: Book,

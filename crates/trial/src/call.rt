@@ -1,5 +1,6 @@
 // The calls of a script.
 use crate::question::{Question, TestName};
+use book::new_task::NewTask;
 
 /// A new task as a line gives it, under no rule yet.
 #[derive(Drop)]
@@ -8,6 +9,18 @@ pub struct Entry {
     pub period: u32,
     pub deadline: u32,
     pub times: Vec<u32>,
+}
+
+impl Entry {
+    /// The task as a book takes it.
+    pub(crate) fn task(&self) -> NewTask<'_> {
+        NewTask {
+            number: self.number,
+            period: self.period,
+            deadline: self.deadline,
+            times: self.times.as_slice(),
+        }
+    }
 }
 
 /// One line of a script.

@@ -4,6 +4,7 @@
 
 mod answer;
 mod call;
+mod failure;
 mod parse;
 mod parse_question;
 mod perform;
@@ -17,12 +18,12 @@ use book::book::Book;
 use std::alloc::{AllocError, Global};
 use std::io::{BufRead, BufReader};
 
-/// Carries out one line of the script. A line that is no call changes nothing.
-fn respond(heap: Global, book: &mut Book, line: &[u8]) -> Result<Answer, AllocError> {
+/// Carries out one line of the script. A line that is no call has no answer and changes nothing.
+fn respond(heap: Global, book: &mut Book, line: &[u8]) -> Result<Option<Answer>, AllocError> {
     match parse(heap, line) {
-        Ok(call) => perform(heap, book, &call),
-        Err(Unread::Foreign) => Ok(Answer::Unread),
+        Ok(call) => Ok(Some(perform(heap, book, &call)?)),
         Err(Unread::Memory(error)) => Err(error),
+        Err(_) => Ok(None),
     }
 }
 
@@ -33,7 +34,10 @@ fn run(rt: &HostRuntime) -> anyhow::Result<()> {
     // Lines are taken as bytes: one that is not even text is answered too.
     for line in BufReader::new(heap, rt.stdin())?.split(heap, b'\n') {
         let line = line?;
-        rt.println(respond(heap, &mut book, line.as_slice())?)?;
+        match respond(heap, &mut book, line.as_slice())? {
+            Some(answer) => rt.println(answer)?,
+            None => rt.println("?")?,
+        }
     }
     Ok(())
 }

@@ -1,40 +1,22 @@
 // Reading a line of a script: the name of a call and its arguments, in words.
 use crate::call::{Call, Entry};
 use crate::parse_question::{ask, tell};
-use std::alloc::{AllocError, AllocFailed, Global};
+use std::alloc::{AllocError, Global};
 use std::num::ParseIntError;
-use std::str::{FromStr, Utf8Error, from_utf8};
+use std::str::{Utf8Error, from_utf8};
+use thiserror::Error;
 
 /// Why a line gives no call.
-#[derive(Drop)]
+#[derive(Debug, Drop, Error)]
 pub enum Unread {
-    /// It is not of the script language, or has a number that the call cannot take.
+    #[error("a line of no known form")]
     Foreign,
-    Memory(AllocError),
-}
-
-impl From<Utf8Error> for Unread {
-    fn from(_: Utf8Error) -> Unread {
-        Unread::Foreign
-    }
-}
-
-impl From<ParseIntError> for Unread {
-    fn from(_: ParseIntError) -> Unread {
-        Unread::Foreign
-    }
-}
-
-impl From<AllocError> for Unread {
-    fn from(error: AllocError) -> Unread {
-        Unread::Memory(error)
-    }
-}
-
-impl<T: Drop> From<AllocFailed<T>> for Unread {
-    fn from(refused: AllocFailed<T>) -> Unread {
-        Unread::Memory(refused.into())
-    }
+    #[error("no text: {0}")]
+    Text(#[from] Utf8Error),
+    #[error("no number that the call can take: {0}")]
+    Number(#[from] ParseIntError),
+    #[error("{0}")]
+    Memory(#[from(alloc)] AllocError),
 }
 
 /// The call of a line.
@@ -61,7 +43,7 @@ pub(crate) fn parse(heap: Global, line: &[u8]) -> Result<Call, Unread> {
             length: length.parse()?,
         }),
         ["classes", list @ ..] => Ok(Call::Classes {
-            list: numbers(heap, list)?,
+            list: each(heap, list, |class| Ok(class.parse()?))?,
         }),
         ["ask", fields @ ..] => ask(heap, fields),
         ["tell", fields @ ..] => tell(heap, fields),
@@ -78,20 +60,23 @@ fn entry(heap: Global, fields: &[&str]) -> Result<Entry, Unread> {
         number: number.parse()?,
         period: period.parse()?,
         deadline: deadline.parse()?,
-        times: numbers(heap, times)?,
+        times: each(heap, times, |time| Ok(time.parse()?))?,
     })
 }
 
-/// The numbers that the words spell, one each.
-fn numbers<T: FromStr<Err = ParseIntError> + Drop>(
+/// What each of the words reads as.
+pub(crate) fn each<T: Drop, F: FnMut(&str) -> Result<T, Unread>>(
     heap: Global,
     words: &[&str],
-) -> Result<Vec<T>, Unread> {
-    let mut numbers = Vec::new(heap);
+    mut read: F,
+) -> Result<Vec<T>, Unread>
+    requires { F.IsAlwaysCallable read }
+{
+    let mut all = Vec::new(heap);
     for word in words {
-        numbers.push(word.parse::<T>()?)?;
+        all.push(read(word)?)?;
     }
-    Ok(numbers)
+    Ok(all)
 }
 
 /// The bytes of a sheet in hexadecimal, two digits each; the empty sheet has no word.
@@ -110,10 +95,8 @@ fn bytes(heap: Global, words: &[&str]) -> Result<Vec<u8>, Unread> {
 
 /// The value of a hexadecimal digit.
 fn digit(byte: u8) -> Result<u8, Unread> {
-    match byte {
-        b'0'..=b'9' => Ok(byte - b'0'),
-        b'a'..=b'f' => Ok(byte - b'a' + 10),
-        b'A'..=b'F' => Ok(byte - b'A' + 10),
-        _ => Err(Unread::Foreign),
+    match char::from(byte).to_digit(16) {
+        Some(value) => Ok(value as u8),
+        None => Err(Unread::Foreign),
     }
 }

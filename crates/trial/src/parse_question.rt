@@ -1,8 +1,11 @@
 // Reading a question to the schedulability tests.
 use crate::call::Call;
-use crate::parse::Unread;
-use crate::question::{LayerEntry, Pile, Question, TestName};
+use crate::parse::{Unread, each};
+use crate::question::{LayerEntry, Question, TestName};
 use std::alloc::Global;
+
+/// The most layers of a pile.
+const MOST_LAYERS: usize = 3;
 
 /// The fields of `ask`: a test, a pile and the times.
 pub(crate) fn ask(heap: Global, fields: &[&str]) -> Result<Call, Unread> {
@@ -29,8 +32,8 @@ pub(crate) fn tell(heap: Global, fields: &[&str]) -> Result<Call, Unread> {
 /// The pile and the times of a question.
 fn question(heap: Global, pile: &str, times: &[&str]) -> Result<Question, Unread> {
     Ok(Question {
-        pile: layers(heap, pile)?,
-        times: plain_numbers(heap, times)?,
+        layers: layers(heap, pile)?,
+        times: each(heap, times, plain_number)?,
     })
 }
 
@@ -43,16 +46,16 @@ fn test_name(word: &str) -> Result<TestName, Unread> {
     }
 }
 
-/// The layers of a pile, with commas between; `-` is the pile of none.
-fn layers(heap: Global, word: &str) -> Result<Pile<LayerEntry>, Unread> {
-    let words: Vec<&str> = word.split(',').collect(heap)?;
-    match words.as_slice() {
-        ["-"] => Ok(Pile::Bare),
-        [a] => Ok(Pile::One(layer(a)?)),
-        [a, b] => Ok(Pile::Two(layer(a)?, layer(b)?)),
-        [a, b, c] => Ok(Pile::Three(layer(a)?, layer(b)?, layer(c)?)),
-        _ => Err(Unread::Foreign),
+/// The layers of a pile, the outermost first, with commas between; `-` is the pile of none.
+fn layers(heap: Global, word: &str) -> Result<Vec<LayerEntry>, Unread> {
+    if word == "-" {
+        return Ok(Vec::new(heap));
     }
+    let words: Vec<&str> = word.split(',').collect(heap)?;
+    if words.len() > MOST_LAYERS {
+        return Err(Unread::Foreign);
+    }
+    each(heap, words.as_slice(), layer)
 }
 
 /// A layer: the letter of its kind and its number.
@@ -64,15 +67,6 @@ fn layer(word: &str) -> Result<LayerEntry, Unread> {
         return Ok(LayerEntry::Margin(plain_number(thousandths)?));
     }
     Err(Unread::Foreign)
-}
-
-/// The numbers that the words spell, one each.
-fn plain_numbers(heap: Global, words: &[&str]) -> Result<Vec<u32>, Unread> {
-    let mut numbers = Vec::new(heap);
-    for word in words {
-        numbers.push(plain_number(word)?)?;
-    }
-    Ok(numbers)
 }
 
 /// The number that a word spells in digits alone, with no sign.

@@ -1,6 +1,7 @@
 // Carrying out a call on the book.
-use crate::answer::{Answer, Front, ListAnswers};
+use crate::answer::{Answer, ListAnswers};
 use crate::call::Call;
+use crate::failure::{Failure, answer};
 use crate::question::{ask, tell};
 use book::book::Book;
 use book::limits::MOST_TASKS;
@@ -12,18 +13,12 @@ use std::alloc::{AllocError, Global};
 /// What each byte of a buffer holds before a write, to show which of them the write leaves alone.
 const UNTOUCHED: u8 = 0xaa;
 
-/// Carries out a call. Only a buffer to write into takes memory.
+/// Carries out a call. Only lists and buffers to write into take memory.
 pub(crate) fn perform(heap: Global, book: &mut Book, call: &Call) -> Result<Answer, AllocError> {
     let answer = match call {
         Call::Make { size } => edited(book.make(*size), book),
-        Call::Enter(new) => edited(
-            book.enter(new.number, new.period, new.deadline, new.times.as_slice()),
-            book,
-        ),
-        Call::Append(new) => edited(
-            book.append(new.number, new.period, new.deadline, new.times.as_slice()),
-            book,
-        ),
+        Call::Enter(new) => edited(book.enter(new.task()), book),
+        Call::Append(new) => edited(book.append(new.task()), book),
         Call::Amend {
             number,
             class,
@@ -35,9 +30,9 @@ pub(crate) fn perform(heap: Global, book: &mut Book, call: &Call) -> Result<Answ
             book: *book,
         },
         Call::Write { length } => write_sheet(heap, book, *length)?,
-        Call::Classes { list } => Answer::Classes(list_answers(book, list.as_slice())),
-        Call::Ask { test, question } => Answer::Ask(ask(book, *test, question)),
-        Call::Tell { place, question } => Answer::Tell(tell(book, *place, question)),
+        Call::Classes { list } => Answer::Classes(list_answers(heap, book, list.as_slice())?),
+        Call::Ask { test, question } => Answer::Ask(answer(ask(heap, book, *test, question))?),
+        Call::Tell { place, question } => Answer::Tell(answer(tell(heap, book, *place, question))?),
     };
     Ok(answer)
 }
@@ -58,26 +53,26 @@ fn write_sheet(heap: Global, book: &Book, length: u16) -> Result<Answer, AllocEr
 }
 
 /// Makes every call on a class list.
-fn list_answers(book: &Book, classes: &[u8]) -> ListAnswers {
-    ListAnswers {
+fn list_answers(heap: Global, book: &Book, classes: &[u8]) -> Result<ListAnswers, AllocError> {
+    Ok(ListAnswers {
         list: book.check_list(classes),
-        sizes: sizes(book, classes),
+        sizes: answer(front(heap, 0, |buffer| book.list_sizes(classes, buffer)))?,
         fit: book.check_fit(classes),
-        times: times(book, classes),
+        times: answer(front(heap, 0, |buffer| book.list_times(classes, buffer)))?,
         work: book.list_work(classes),
-    }
+    })
 }
 
-/// The sizes of the list's partitions.
-fn sizes(book: &Book, classes: &[u8]) -> Result<Front<u16>, Refusal> {
-    let mut buffer = [0; MOST_TASKS];
-    let count = book.list_sizes(classes, &mut buffer)?;
-    Ok(Front { buffer, count })
-}
-
-/// The execution times of the tasks in the list's partitions.
-fn times(book: &Book, classes: &[u8]) -> Result<Front<u32>, Refusal> {
-    let mut buffer = [0; MOST_TASKS];
-    let count = book.list_times(classes, &mut buffer)?;
-    Ok(Front { buffer, count })
+/// What a call puts into the front of a buffer, which has a place for each task that a book may have.
+fn front<T: Copy, F: FnOnce(&mut [T]) -> Result<usize, Refusal>>(
+    heap: Global,
+    blank: T,
+    put: F,
+) -> Result<Vec<T>, Failure>
+    requires { F.IsAlwaysCallable put }
+{
+    let mut buffer = vec![in heap; blank; MOST_TASKS]?;
+    let count = put(buffer.as_mut_slice())?;
+    buffer.truncate(count);
+    Ok(buffer)
 }

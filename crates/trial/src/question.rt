@@ -1,4 +1,5 @@
 // Questions to the schedulability tests, beneath the layers of a pile.
+use crate::failure::Failure;
 use book::book::Book;
 use book::refusal::Refusal;
 use schedule::any_change::AnyChange;
@@ -9,6 +10,7 @@ use schedule::layer::Layer;
 use schedule::margin::Margin;
 use schedule::test::Test;
 use schedule::timing_test::TimingTest;
+use std::alloc::Global;
 
 /// A test by its name.
 #[derive(Clone, Copy)]
@@ -24,85 +26,65 @@ pub enum LayerEntry {
     Margin(u32),
 }
 
-/// Layers, none to three, the outermost first.
-#[derive(Clone, Copy)]
-pub enum Pile<L> {
-    Bare,
-    One(L),
-    Two(L, L),
-    Three(L, L, L),
+/// The change of a layer, made under its rule.
+impl TryFrom<LayerEntry> for AnyChange {
+    type Error = Refusal;
+
+    fn try_from(entry: LayerEntry) -> Result<AnyChange, Refusal> {
+        match entry {
+            LayerEntry::Charge(ticks) => Ok(AnyChange::Charge(Charge::try_from(ticks)?)),
+            LayerEntry::Margin(thousandths) => {
+                Ok(AnyChange::Margin(Margin::try_from(thousandths)?))
+            }
+        }
+    }
 }
 
-/// What a line asks a test about: times, of any number, beneath a pile.
+/// What a line asks a test about: times, of any number, beneath layers, the outermost first.
 #[derive(Drop)]
 pub struct Question {
-    pub pile: Pile<LayerEntry>,
+    pub layers: Vec<LayerEntry>,
     pub times: Vec<u32>,
 }
 
+/// The changes of the layers, made in the order written.
+fn changes(heap: Global, layers: &[LayerEntry]) -> Result<Vec<AnyChange>, Failure> {
+    let mut changes = Vec::new(heap);
+    for layer in layers {
+        changes.push(AnyChange::try_from(*layer)?)?;
+    }
+    Ok(changes)
+}
+
 /// Whether the times pass the test.
-pub(crate) fn ask(book: &Book, test: TestName, question: &Question) -> Result<bool, Refusal> {
-    let pile = made(question.pile)?;
+pub(crate) fn ask(
+    heap: Global,
+    book: &Book,
+    test: TestName,
+    question: &Question,
+) -> Result<bool, Failure> {
+    let changes = changes(heap, question.layers.as_slice())?;
+    let change = changes.as_slice();
     let times = question.times.as_slice();
-    let passes = match test {
-        TestName::Fixed => ask_beneath(pile, FixedPriority, book, times),
-        TestName::Earliest => ask_beneath(pile, EarliestDeadline, book, times),
-    };
-    Ok(passes)
+    match test {
+        TestName::Fixed => Ok(over(change, FixedPriority).ask(book, times)),
+        TestName::Earliest => Ok(over(change, EarliestDeadline).ask(book, times)),
+    }
 }
 
 /// What fixed priority tells of the task at a place.
-pub(crate) fn tell(book: &Book, place: u32, question: &Question) -> Result<Option<u32>, Refusal> {
-    let pile = made(question.pile)?;
-    let times = question.times.as_slice();
-    Ok(tell_beneath(pile, FixedPriority, book, times, place as usize))
-}
-
-/// The changes of the layers, made in the order written.
-fn made(pile: Pile<LayerEntry>) -> Result<Pile<AnyChange>, Refusal> {
-    match pile {
-        Pile::Bare => Ok(Pile::Bare),
-        Pile::One(a) => Ok(Pile::One(change(a)?)),
-        Pile::Two(a, b) => Ok(Pile::Two(change(a)?, change(b)?)),
-        Pile::Three(a, b, c) => Ok(Pile::Three(change(a)?, change(b)?, change(c)?)),
-    }
-}
-
-/// The change of one layer, made under its rule.
-fn change(entry: LayerEntry) -> Result<AnyChange, Refusal> {
-    match entry {
-        LayerEntry::Charge(ticks) => Ok(AnyChange::Charge(Charge::new(ticks)?)),
-        LayerEntry::Margin(thousandths) => Ok(AnyChange::Margin(Margin::new(thousandths)?)),
-    }
-}
-
-/// One more layer.
-fn over<T>(change: AnyChange, below: T) -> Layer<AnyChange, T> {
-    Layer { change, below }
-}
-
-/// Asks any test beneath the layers.
-fn ask_beneath<T: Test + Copy>(pile: Pile<AnyChange>, test: T, book: &Book, times: &[u32]) -> bool {
-    match pile {
-        Pile::Bare => test.ask(book, times),
-        Pile::One(a) => over(a, test).ask(book, times),
-        Pile::Two(a, b) => over(a, over(b, test)).ask(book, times),
-        Pile::Three(a, b, c) => over(a, over(b, over(c, test))).ask(book, times),
-    }
-}
-
-/// Has any timing test beneath the layers tell.
-fn tell_beneath<T: TimingTest + Copy>(
-    pile: Pile<AnyChange>,
-    test: T,
+pub(crate) fn tell(
+    heap: Global,
     book: &Book,
-    times: &[u32],
-    place: usize,
-) -> Option<u32> {
-    match pile {
-        Pile::Bare => test.tell(book, times, place),
-        Pile::One(a) => over(a, test).tell(book, times, place),
-        Pile::Two(a, b) => over(a, over(b, test)).tell(book, times, place),
-        Pile::Three(a, b, c) => over(a, over(b, over(c, test))).tell(book, times, place),
-    }
+    place: u32,
+    question: &Question,
+) -> Result<Option<u32>, Failure> {
+    let changes = changes(heap, question.layers.as_slice())?;
+    let times = question.times.as_slice();
+    Ok(over(changes.as_slice(), FixedPriority).tell(book, times, place as usize))
+}
+
+/// The layers over a test, as one layer that makes their changes in turn.
+fn over<T>(change: &[AnyChange], below: T) -> Layer<&[AnyChange], T> {
+    Layer { change, below }
 }

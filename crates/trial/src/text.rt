@@ -1,5 +1,5 @@
 // The answers in words. Each part of an answer line has a function that writes it.
-use crate::answer::{Answer, Front, ListAnswers};
+use crate::answer::{Answer, ListAnswers};
 use book::book::Book;
 use book::refusal::Refusal;
 use sheet::fault::Fault;
@@ -8,9 +8,8 @@ use std::fmt;
 impl fmt::Display for Answer {
     fn fmt<W: fmt::Write>(&self, f: &mut fmt::Formatter<W>) -> fmt::Result {
         match self {
-            Answer::Unread => f.write_str("?"),
             Answer::Edit { result, book } => {
-                outcome(f, *result)?;
+                outcome(f, result, done)?;
                 state(f, book)
             }
             Answer::Load { result, book } => {
@@ -18,13 +17,32 @@ impl fmt::Display for Answer {
                 state(f, book)
             }
             Answer::Write { result, buffer } => {
-                written(f, *result)?;
+                outcome(f, result, |f, length| write!(f, "wrote {length}"))?;
                 hex(f, buffer.as_slice())
             }
             Answer::Classes(answers) => classes(f, answers),
-            Answer::Ask(result) => asked(f, *result),
-            Answer::Tell(result) => told(f, *result),
+            Answer::Ask(result) => outcome(f, result, |f, passes| {
+                f.write_str(if *passes { "yes" } else { "no" })
+            }),
+            Answer::Tell(result) => outcome(f, result, |f, told| match told {
+                Some(time) => write!(f, "told {time}"),
+                None => f.write_str("none"),
+            }),
         }
+    }
+}
+
+/// The result of a call: its value, as `put` writes it, or its refusal.
+fn outcome<W: fmt::Write, T, P: FnOnce(&mut fmt::Formatter<W>, &T) -> fmt::Result>(
+    f: &mut fmt::Formatter<W>,
+    answer: &Result<T, Refusal>,
+    put: P,
+) -> fmt::Result
+    requires { P.IsAlwaysCallable put }
+{
+    match answer {
+        Ok(value) => put(f, value),
+        Err(refusal) => refused(f, *refusal),
     }
 }
 
@@ -34,12 +52,9 @@ fn refused<W: fmt::Write>(f: &mut fmt::Formatter<W>, refusal: Refusal) -> fmt::R
     write!(f, "refused {number}")
 }
 
-/// The result of a call that gives nothing.
-fn outcome<W: fmt::Write>(f: &mut fmt::Formatter<W>, answer: Result<(), Refusal>) -> fmt::Result {
-    match answer {
-        Ok(()) => f.write_str("ok"),
-        Err(refusal) => refused(f, refusal),
-    }
+/// What a call gives that gives no value.
+fn done<W: fmt::Write>(f: &mut fmt::Formatter<W>, _: &()) -> fmt::Result {
+    f.write_str("ok")
 }
 
 /// The result of a load; a fault has its place on the sheet.
@@ -53,17 +68,6 @@ fn loaded<W: fmt::Write>(f: &mut fmt::Formatter<W>, answer: Result<(), Fault>) -
     }
 }
 
-/// The result of a write.
-fn written<W: fmt::Write>(
-    f: &mut fmt::Formatter<W>,
-    answer: Result<usize, Refusal>,
-) -> fmt::Result {
-    match answer {
-        Ok(length) => write!(f, "wrote {length}"),
-        Err(refusal) => refused(f, refusal),
-    }
-}
-
 /// The whole book behind the result of an edit: its size, count and hyperperiod, and then the fields of each task.
 fn state<W: fmt::Write>(f: &mut fmt::Formatter<W>, book: &Book) -> fmt::Result {
     let size = book.cache_size();
@@ -72,9 +76,7 @@ fn state<W: fmt::Write>(f: &mut fmt::Formatter<W>, book: &Book) -> fmt::Result {
     write!(f, "; {size} {count} {hyperperiod}")?;
     for task in book.tasks() {
         write!(f, " | {} {} {}", task.number, task.period, task.deadline)?;
-        for time in task.row.times() {
-            write!(f, " {time}")?;
-        }
+        numbers(f, task.row.times())?;
     }
     Ok(())
 }
@@ -94,56 +96,38 @@ fn hex<W: fmt::Write>(f: &mut fmt::Formatter<W>, buffer: &[u8]) -> fmt::Result {
 /// The results of the calls on a class list, each behind its name.
 fn classes<W: fmt::Write>(f: &mut fmt::Formatter<W>, answers: &ListAnswers) -> fmt::Result {
     f.write_str("list ")?;
-    outcome(f, answers.list)?;
+    outcome(f, &answers.list, done)?;
     f.write_str("; sizes")?;
-    numbers(f, &answers.sizes)?;
+    list(f, &answers.sizes)?;
     f.write_str("; fit ")?;
-    outcome(f, answers.fit)?;
+    outcome(f, &answers.fit, done)?;
     f.write_str("; times")?;
-    numbers(f, &answers.times)?;
+    list(f, &answers.times)?;
     f.write_str("; work ")?;
-    match answers.work {
-        Ok(work) => write!(f, "{work}"),
-        Err(refusal) => refused(f, refusal),
-    }
+    outcome(f, &answers.work, |f, work| write!(f, "{work}"))
 }
 
-/// Whether times pass a test.
-fn asked<W: fmt::Write>(f: &mut fmt::Formatter<W>, answer: Result<bool, Refusal>) -> fmt::Result {
-    match answer {
-        Ok(true) => f.write_str("yes"),
-        Ok(false) => f.write_str("no"),
-        Err(refusal) => refused(f, refusal),
-    }
-}
-
-/// The time that a test tells of a task, if any.
-fn told<W: fmt::Write>(
+/// The list that a call gives, or its refusal, behind a space.
+fn list<W: fmt::Write, T: fmt::Display>(
     f: &mut fmt::Formatter<W>,
-    answer: Result<Option<u32>, Refusal>,
+    answer: &Result<Vec<T>, Refusal>,
 ) -> fmt::Result {
     match answer {
-        Ok(Some(time)) => write!(f, "told {time}"),
-        Ok(None) => f.write_str("none"),
-        Err(refusal) => refused(f, refusal),
-    }
-}
-
-/// The numbers that a call put into a buffer, each behind a space, or its refusal.
-fn numbers<W: fmt::Write, T: fmt::Display>(
-    f: &mut fmt::Formatter<W>,
-    answer: &Result<Front<T>, Refusal>,
-) -> fmt::Result {
-    match answer {
-        Ok(front) => {
-            for number in front.buffer.iter().take(front.count) {
-                write!(f, " {number}")?;
-            }
-            Ok(())
-        }
+        Ok(list) => numbers(f, list.as_slice()),
         Err(refusal) => {
             f.write_str(" ")?;
             refused(f, *refusal)
         }
     }
+}
+
+/// Numbers, each behind a space.
+fn numbers<W: fmt::Write, T: fmt::Display>(
+    f: &mut fmt::Formatter<W>,
+    numbers: &[T],
+) -> fmt::Result {
+    for number in numbers {
+        write!(f, " {number}")?;
+    }
+    Ok(())
 }
