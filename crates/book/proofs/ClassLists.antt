@@ -1,22 +1,13 @@
--- The loops over a class list, one place at a time.
-use Rattle.std.proofs.Common.{◌≡◌, ℕ, ◌+◌, ◌<◌, true, List, [], ◌∷◌, ◌++◌, map, length, get_or, ◌==◌, nat_lt, Bool, take, drop, set, sym, refl, ap, ◌∙◌, ◌⊎◌, inl, inr, arith}
-use Rattle.std.proofs.lemmas.List.{drop_more, get_or-map, length-map, length-take-le, set_at, take_more, append_assoc}
+-- What a class list asks of the tasks: that it names a class of each, and what is left of the times and the work.
+use Rattle.std.proofs.Common.{◌≡◌, ℕ, true, List, [], ◌∷◌, map, length, ◌==◌, nat_lt, Bool, sym, refl, ap, ◌∙◌, ◌⊎◌, inl, inr}
+use Rattle.std.proofs.lemmas.List.{length-map}
 use Rattle.std.proofs.lemmas.Bool.{and_parts, eq-eqb, eqb-true}
 use Rattle.std.specs.List.{list_all, zip}
-use Rattle.book.specs.Classes.{chosen_times, class_size, names, sizes, work_in}
+use Rattle.book.specs.Classes.{chosen_times, names, work_in}
 use Rattle.book.specs.Held.{record_of, times_in}
 use Rattle.book.specs.Ledger.{TaskRecord}
 use Rattle.book.specs.declared.task.Task.{Task}
 use Rattle.book.proofs.Zips.{all_zip_map}
-
--- a list written into the front of a buffer, one place more
-pub front_more : {X : Type 0} (out buffer now : List X) (i : ℕ) (x : X) → i < length out → i < length buffer → now ≡ take i out ++ drop i buffer → get_or out i x ≡ x
-    → set now i x ≡ take (i + 1) out ++ drop (i + 1) buffer
-front_more out buffer now i x lt lt' e at =
-    let split : now ≡ take i out ++ get_or buffer i x ∷ drop (i + 1) buffer = e ∙ ap (λ zs. take i out ++ zs) (drop_more buffer i x lt') in
-    ap (λ zs. set zs i x) split
-    ∙ set_at (take i out) (get_or buffer i x) (drop (i + 1) buffer) x i (length-take-le i out (omega arith))
-    ∙ sym (ap (λ zs. zs ++ drop (i + 1) buffer) (take_more out i x lt ∙ ap (λ z. take i out ++ z ∷ []) at) ∙ append_assoc (take i out) (x ∷ []) (drop (i + 1) buffer))
 
 -- a list of the right length names each task's class where the code says so of each pair
 pub names_of : (ts : List Task) (cs : List ℕ) (b : Bool) → length cs ≡ length ts → b ≡ list_all (λ (p : Task × ℕ). nat_lt p.1 (length (times_in p.0.row))) (zip ts cs)
@@ -29,14 +20,11 @@ names_of ts cs b same e =
 pub names_long : (ts : List TaskRecord) (cs : List ℕ) → names ts cs ≡ true → length cs ≡ length ts
 names_long ts cs e = eqb-true (length cs) (length ts) (and_parts (length cs == length ts) _ e).0
 
-pub size_at : (cs : List ℕ) (i size : ℕ) → i < length cs → size ≡ class_size (get_or cs i 0) → get_or (sizes cs) i size ≡ size
-size_at cs i size lt e = get_or-map class_size cs i 0 size lt ∙ sym e
-
--- the times, one task more
+-- the times that the classes give
 abbrev pub times_chosen : List Task → List ℕ → List ℕ
 times_chosen ts cs = chosen_times (map record_of ts) cs
 
--- the work, one task more
+-- the work of those times
 abbrev pub work_left : ℕ → List Task → List ℕ → ℕ
 work_left cycle ts cs = work_in cycle (map record_of ts) (chosen_times (map record_of ts) cs)
 

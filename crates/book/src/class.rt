@@ -1,5 +1,5 @@
 // Partition classes: the size of a partition by its class.
-ghost use Rattle.std.specs.Prelude.{◌≡◌, ◌≤◌, if◌then◌else◌, Some, None, nat_lt};
+ghost use Rattle.std.specs.Prelude.{◌≡◌, if◌then◌else◌, Some, None, nat_lt};
 ghost use Rattle.book.specs.Classes.{class_size};
 
 /// The sizes of the classes 0 to 10, in sets.
@@ -10,12 +10,4 @@ pub fn class_size(class: u8) -> Option<u16>
     ensures { result ≡ (if nat_lt class 11 then Some (class_size class) else None) }
 {
     CLASS_SIZES.get(usize::from(class)).copied()
-}
-
-/// The sets that a partition of this class takes, 0 past class 10.
-pub(crate) fn sets_of(class: u8) -> u16
-    ensures value { result ≡ class_size class }
-    ensures bound { result ≤ 512 }
-{
-    class_size(class).unwrap_or(0)
 }

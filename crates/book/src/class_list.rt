@@ -3,7 +3,7 @@ ghost use Rattle.std.specs.Prelude.{◌≡◌, ◌≤◌, ◌++◌, length, drop
 ghost use Rattle.book.specs.Books.{records_in, used};
 ghost use Rattle.book.specs.Classes.{chosen_times, names, sizes, work};
 
-use crate::class::sets_of;
+use crate::class::class_size;
 use crate::table::Table;
 
 /// The sets that the partitions of the list take together.
@@ -11,7 +11,10 @@ pub(crate) fn total_size(classes: &[u8]) -> u32
     requires { length classes.now ≤ 16 }
     ensures { result ≡ sum (sizes classes.now) }
 {
-    classes.iter().map(|class| u32::from(sets_of(*class))).sum()
+    classes
+        .iter()
+        .map(|class| u32::from(class_size(*class).unwrap_or(0)))
+        .sum()
 }
 
 /// Puts the size of each class into the front of the buffer. The place is counted, since nothing is known of what a loop over
@@ -21,7 +24,7 @@ pub(crate) fn put_sizes(classes: &[u8], buffer: &mut [u16])
     ensures { buffer.new ≡ sizes classes.now ++ drop (length classes.now) buffer.old }
 {
     for (i, class) in classes.iter().enumerate() {
-        buffer[i] = sets_of(*class);
+        buffer[i] = class_size(*class).unwrap_or(0);
     }
 }
 
@@ -44,7 +47,7 @@ impl Table {
             ≡ chosen_times (records_in self.now) classes.now ++ drop (length classes.now) buffer.old }
     {
         for (i, (task, class)) in self.tasks().iter().zip(classes).enumerate() {
-            buffer[i] = task.row.time(*class);
+            buffer[i] = task.row.time(*class).unwrap_or(0);
         }
     }
 
@@ -55,7 +58,8 @@ impl Table {
     {
         let mut sum = 0;
         for (task, class) in self.tasks().iter().zip(classes) {
-            sum += self.cycle / task.period as u64 * task.row.time(*class) as u64;
+            let time = task.row.time(*class).unwrap_or(0);
+            sum += self.cycle / task.period as u64 * time as u64;
         }
         sum
     }

@@ -1,5 +1,5 @@
 // Making a row from its times, reading it, and amending one time of it.
-ghost use Rattle.std.specs.Prelude.{◌≡◌, ◌≤◌, slice_index, slice_set};
+ghost use Rattle.std.specs.Prelude.{◌≡◌, ◌≤◌, slice_index, slice_set, unwrap_or};
 ghost use Rattle.book.specs.Amending.{amend_checks};
 ghost use Rattle.book.specs.Classes.{time_at};
 ghost use Rattle.book.specs.Checks.{Did, Made, judged, outside};
@@ -76,12 +76,12 @@ impl Row {
         &self.times[0..self.count]
     }
 
-    /// The time in a partition of this class, 0 where the row has none.
-    pub(crate) fn time(&self, class: u8) -> u32
-        ensures value { result ≡ time_at (times_in self.now) class }
-        ensures bound { result ≤ 1000000 }
+    /// The time in a partition of this class, if the row has one.
+    pub(crate) fn time(&self, class: u8) -> Option<u32>
+        ensures value { unwrap_or result 0 ≡ time_at (times_in self.now) class }
+        ensures bound { unwrap_or result 0 ≤ 1000000 }
     {
-        self.times().get(usize::from(class)).copied().unwrap_or(0)
+        self.times().get(usize::from(class)).copied()
     }
 
     /// Puts `time` at `class`, if the row as it would be keeps the rules.

@@ -81,6 +81,29 @@ fn the_outer_layer_changes_the_times_first(rt: HostRuntime) -> Result<(), Fail> 
 }
 
 #[test]
+fn a_slice_of_changes_makes_them_in_turn(rt: HostRuntime) -> Result<(), Fail> {
+    let book = book_of(&[(10, 10)])?;
+    let margin = AnyChange::Margin(Margin::try_from(1_500)?);
+    let charge = AnyChange::Charge(Charge::try_from(1)?);
+    // 3 * 1.5 rounded up is 5, and 2 more is 7; 3 and 2 is 5, and 5 * 1.5 rounded up is 8
+    for (changes, response) in [([margin, charge], 7), ([charge, margin], 8)] {
+        let layer = Layer {
+            change: &changes[..],
+            below: FixedPriority,
+        };
+        assert!(rt; layer.tell(&book, &[3], 0) == Some(response));
+    }
+    let none: [AnyChange; 0] = [];
+    let bare = Layer {
+        change: &none[..],
+        below: FixedPriority,
+    };
+    assert!(rt; bare.tell(&book, &[3], 0) == Some(3));
+    assert!(rt; !bare.ask(&book, &[11]));
+    Ok(())
+}
+
+#[test]
 fn a_margin_rounds_up_and_the_cap_comes_last(rt: HostRuntime) -> Result<(), Fail> {
     // 333,334 * 3 is 1,000,002; 1 * 1.001 rounded up is 2; 250,000 * 4 is 1,000,000, which a task may have
     let book = book_of(&[(1_000_000, 1_000_000)])?;

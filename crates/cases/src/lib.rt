@@ -14,4 +14,8 @@ mod layers;
 #[cfg(test)]
 mod questions;
 #[cfg(test)]
+mod refusals;
+#[cfg(test)]
+mod rows;
+#[cfg(test)]
 mod sheets;

@@ -68,6 +68,15 @@ fn earliest_deadline_passes_what_fixed_priority_does_not(rt: HostRuntime) -> Res
 }
 
 #[test]
+fn work_that_is_due_together_is_found(rt: HostRuntime) -> Result<(), Fail> {
+    // By 3, one job of 2 of each task is due: 4.
+    let book = book_of(&[(10, 3), (10, 3)])?;
+    assert!(rt; asked(&book, &[2, 2]) == (false, false));
+    assert!(rt; asked(&book, &[2, 1]) == (true, true));
+    Ok(())
+}
+
+#[test]
 fn an_overload_past_the_largest_period_is_found(rt: HostRuntime) -> Result<(), Fail> {
     // By 48, 4 jobs of 6 and 5 of 5 are due: 49. Nowhere before is more due than there are ticks.
     let book = book_of(&[(12, 11), (10, 8)])?;
@@ -135,4 +144,13 @@ fn the_search_finds_the_least_solution_up_to_the_limit(rt: HostRuntime) -> Resul
     let other = book_of(&[(5, 5), (7, 7)])?;
     assert!(rt; busy_period(&other, &[2, 4], 35) == Some(14));
     Ok(())
+}
+
+#[test]
+fn the_busy_period_of_no_work_is_1(rt: HostRuntime) {
+    let book = Book::new();
+    let empty: [u32; 0] = [];
+    assert!(rt; busy_period(&book, &empty, 5) == Some(1));
+    assert!(rt; busy_period(&book, &empty, 1) == Some(1));
+    assert!(rt; busy_period(&book, &empty, 0) == None);
 }

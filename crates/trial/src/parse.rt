@@ -95,8 +95,6 @@ fn bytes(heap: Global, words: &[&str]) -> Result<Vec<u8>, Unread> {
 
 /// The value of a hexadecimal digit.
 fn digit(byte: u8) -> Result<u8, Unread> {
-    match char::from(byte).to_digit(16) {
-        Some(value) => Ok(value as u8),
-        None => Err(Unread::Foreign),
-    }
+    let value = char::from(byte).to_digit(16).ok_or(Unread::Foreign)?;
+    Ok(value as u8)
 }

@@ -210,6 +210,9 @@ fixed_answer ts xs answer e = subst (λ b. Exactly b (EachResponds ts xs)) (sym 
 pub told_answer : (ts : List TaskRecord) (xs : List ℕ) (place : ℕ) (r : Option ℕ) → r ≡ fixed_priority_told ts xs place → Tells (fixed_priority ts xs) ts place r
 told_answer ts xs place r e = subst (λ o. Tells (fixed_priority ts xs) ts place o) (sym e) (fixed_tells ts xs place)
 
+pub told_failed : (ts : List TaskRecord) (xs : List ℕ) (place : ℕ) → false ≡ fixed_priority ts xs → None ≡ fixed_priority_told ts xs place
+told_failed ts xs place e = sym (cond-false (fixed_priority ts xs) (response_at ts xs place) None (sym e))
+
 pub told_passed : (ts : List TaskRecord) (xs : List ℕ) (place : ℕ) (r : Option ℕ) → true ≡ fixed_priority ts xs → r ≡ response_at ts xs place → r ≡ fixed_priority_told ts xs place
 told_passed ts xs place r e is = is ∙ sym (cond-true (fixed_priority ts xs) (response_at ts xs place) None (sym e))
 

@@ -1,6 +1,6 @@
 -- Layers: each keeps the laws of the test below, tells times as that one does, and joins a pile.
 use Rattle.std.specs.Prelude.{◌≡◌, ℕ, ◌+◌, ◌*◌, ◌/◌, ◌<◌, ◌≤◌, Bool, true, false, cond, ◌&&◌, List, [], ◌∷◌, map, length, None, Option, ◌==◌, nat_lt, slice_index, refl}
-use Rattle.std.proofs.Common.{ap, ◌∙◌, ⊎_elim, mul-le-mul, arith}
+use Rattle.std.proofs.Common.{sym, ap, ◌∙◌, ⊎_elim, mul-le-mul, arith}
 use Rattle.std.proofs.lemmas.Nat.{le-div, div-add-mod'}
 use Rattle.std.proofs.lemmas.List.{get_or-map, length-map}
 use Rattle.std.proofs.lemmas.Bool.{and_parts, and_from, and_left, and_right, cases_lt, eq-eqb, lt-ltb, ltb-true, false≢true}
@@ -115,3 +115,11 @@ tells_handed_more change some pile below h l xs place =
     ap (λ r. cond (well_shaped l.tasks xs) r None) (h l (map change xs) place)
     ∙ cond_within (well_shaped l.tasks xs) (well_shaped l.tasks (map change xs)) (fixed_priority_told l.tasks (handed pile (map change xs)) place) None
     (changed_shaped change some l.tasks xs)
+
+-- a layer fails a list of another shape, and else answers as the test below does
+pub layered_shut : (change : ℕ → ℕ) (below : Ledger → List ℕ → Bool) (l : Ledger) (xs : List ℕ) → false ≡ well_shaped l.tasks xs → false ≡ layered change below l xs
+layered_shut change below l xs e = sym (and_left (well_shaped l.tasks xs) (below l (map change xs)) (sym e))
+
+pub layered_open : (change : ℕ → ℕ) (below : Ledger → List ℕ → Bool) (l : Ledger) (xs ys : List ℕ) (answer : Bool) → true ≡ well_shaped l.tasks xs
+    → ys ≡ map change xs → answer ≡ below l ys → answer ≡ layered change below l xs
+layered_open change below l xs ys answer e same is = is ∙ ap (below l) same ∙ ap (λ b. b && below l (map change xs)) e
