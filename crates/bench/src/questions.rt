@@ -9,8 +9,8 @@ use std::alloc::Global;
 #[derive(Drop)]
 pub(crate) struct Questions {
     book: Book,
-    /// The lists end to end, each as long as the book's tasks are many, as `chunks` cuts them. A list of lists would count those of
-    /// no time too, and change what is printed where there is no task.
+    /// The lists end to end. No list of lists: they are all cut anew by the number of tasks that there are when they are counted or
+    /// asked, and a task may be entered behind a list.
     lists: Vec<u32>,
 }
 

@@ -6,8 +6,9 @@ use Rattle.std.proofs.lemmas.Bool.{eq-eqb, ne_eqb}
 use Rattle.book.specs.Amending.{amend_checks, amend_tasks, amended, row_of, with_time, withdraw_tasks}
 use Rattle.book.specs.Books.{records_in}
 use Rattle.book.specs.Checks.{Did, judged}
-use Rattle.book.specs.Held.{number_in, numbers, period_in, periods, record_of, records}
+use Rattle.book.specs.Held.{number_in, numbers, period_in, periods, record_of}
 use Rattle.book.specs.Hyperperiod.{hyperperiod}
+use Rattle.book.specs.Ledger.{TaskRecord}
 use Rattle.book.specs.Places.{Found}
 use Rattle.book.specs.Rules.{Ascending}
 use Rattle.book.specs.declared.refusal.Refusal.{Refusal}
@@ -73,6 +74,10 @@ module _ (old : Table) (i : ℕ) (d : Task) (n class time : ℕ) (f : Found old 
       rw (taken_there old n i f)
       ((λ j. judged (amend_checks (row j) class time) (done j))
       ∙ judged_by (set (records_in old) i) (amend_checks (record_of (get_or old.tasks i d)).times class time) (with_time class time (record_of (get_or old.tasks i d))))
+
+-- the records in the first `count` slots
+abbrev records : List Task → ℕ → List TaskRecord
+records tasks count = map record_of (take count tasks)
 
 records_set : (ts : List Task) (n i : ℕ) (t : Task) → records (set ts i t) n ≡ set (records ts n) i (record_of t)
 records_set ts n i t = ap (map record_of) (take_set_in n ts i t) ∙ map-set record_of (take n ts) i t

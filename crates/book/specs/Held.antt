@@ -22,10 +22,7 @@ number_in t = t.number
 abbrev pub period_in : Task → ℕ
 period_in t = t.period
 
--- the records in the first `count` slots
-abbrev pub records : List Task → ℕ → List TaskRecord
-records tasks count = map record_of (take count tasks)
-
+-- the numbers and the periods in the first `count` slots
 abbrev pub numbers : List Task → ℕ → List ℕ
 numbers tasks count = map number_in (take count tasks)
 

@@ -57,7 +57,7 @@ impl Book {
     pub fn amend(&mut self, number: u8, class: u8, time: u32) -> Result<(), Refusal>
         ensures { Did holds self.old self.new (amend_answer (holds self.old) number class time) result }
     {
-        self.table.amend(number, class as usize, time)
+        self.table.amend(number, usize::from(class), time)
     }
 
     /// Removes the task `number`.

@@ -30,7 +30,7 @@ impl Book {
             tt }
     {
         self.check_list(classes)?;
-        if total_size(classes) > self.cache as u32 {
+        if total_size(classes) > u32::from(self.cache) {
             Err(Refusal::Overrun)
         } else {
             Ok(())
@@ -38,7 +38,7 @@ impl Book {
     }
 
     /// How many values the list gives, if it is one and the buffer has room for them.
-    fn room_for<T>(&self, classes: &[u8], buffer: &[T]) -> Result<usize, Refusal>
+    fn value_count<T>(&self, classes: &[u8], buffer: &[T]) -> Result<usize, Refusal>
         ensures { result
             ≡ judged
             (list_check (holds self.now).tasks classes.now
@@ -63,7 +63,7 @@ impl Book {
             (sizes classes.now))
             result }
     {
-        let count = self.room_for(classes, buffer)?;
+        let count = self.value_count(classes, buffer)?;
         put_sizes(classes, buffer);
         Ok(count)
     }
@@ -78,7 +78,7 @@ impl Book {
             (chosen_times (holds self.now).tasks classes.now))
             result }
     {
-        let count = self.room_for(classes, buffer)?;
+        let count = self.value_count(classes, buffer)?;
         self.table.put_times(classes, buffer);
         Ok(count)
     }

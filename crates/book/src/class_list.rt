@@ -18,7 +18,8 @@ pub(crate) fn total_size(classes: &[u8]) -> u32
 }
 
 /// Puts the size of each class into the front of the buffer. The place is counted, since nothing is known of what a loop over
-/// `buffer.iter_mut().zip(classes)` wrote; `put_times` looks at tasks too, and so stands beside this.
+/// `buffer.iter_mut().zip(classes)` wrote. It and `put_times` are two, since this looks at classes alone: one function that takes
+/// the value as a closure would promise it place by place, where each of these says its list.
 pub(crate) fn put_sizes(classes: &[u8], buffer: &mut [u16])
     requires { length classes.now ≤ length buffer.old }
     ensures { buffer.new ≡ sizes classes.now ++ drop (length classes.now) buffer.old }
@@ -52,14 +53,14 @@ impl Table {
     }
 
     /// The work of the list in one hyperperiod: over all tasks, the releases in it times the execution time. It fits: there are
-    /// at most sixteen tasks, and each factor is within its range.
+    /// at most sixteen tasks, and each factor is within its range. That is an invariant of the loop; a `sum` of a chain left it open.
     pub(crate) fn total_work(&self, classes: &[u8]) -> u64
         ensures { result ≡ work (records_in self.now) (chosen_times (records_in self.now) classes.now) }
     {
         let mut sum = 0;
         for (task, class) in self.tasks().iter().zip(classes) {
             let time = task.row.time(*class).unwrap_or(0);
-            sum += self.cycle / task.period as u64 * time as u64;
+            sum += self.cycle / u64::from(task.period) * u64::from(time);
         }
         sum
     }

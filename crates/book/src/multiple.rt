@@ -10,11 +10,12 @@ fn gcd(a: u64, b: u64) -> u64
 }
 
 /// The least common multiple of one period and the hyperperiod of others. It fits: each factor is within its range.
-pub(crate) fn lcm(period: u64, whole: u64) -> u64
+pub(crate) fn lcm(period: u32, whole: u64) -> u64
     requires some { 1 ≤ period }
     requires short { period ≤ 1000000 }
     requires within { whole ≤ 10000000000 }
     ensures { IsLcm period whole result }
 {
+    let period = u64::from(period);
     period / gcd(period, whole) * whole
 }

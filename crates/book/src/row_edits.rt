@@ -1,5 +1,5 @@
 // Making a row from its times, reading it, and amending one time of it.
-ghost use Rattle.std.specs.Prelude.{◌≡◌, ◌≤◌, slice_index, slice_set, unwrap_or};
+ghost use Rattle.std.specs.Prelude.{◌≡◌, ◌≤◌, if◌then◌else◌, length, Some, None, nat_lt, slice_index, slice_set, unwrap_or};
 ghost use Rattle.book.specs.Amending.{amend_checks};
 ghost use Rattle.book.specs.Classes.{time_at};
 ghost use Rattle.book.specs.Checks.{Did, Made, judged, outside};
@@ -78,13 +78,15 @@ impl Row {
 
     /// The time in a partition of this class, if the row has one.
     pub(crate) fn time(&self, class: u8) -> Option<u32>
-        ensures value { unwrap_or result 0 ≡ time_at (times_in self.now) class }
+        ensures value { result
+            ≡ (if nat_lt class (length (times_in self.now)) then Some (time_at (times_in self.now) class) else None) }
         ensures bound { unwrap_or result 0 ≤ 1000000 }
     {
         self.times().get(usize::from(class)).copied()
     }
 
-    /// Puts `time` at `class`, if the row as it would be keeps the rules.
+    /// Puts `time` at `class`, if the row as it would be keeps the rules. The two come from `Book::amend` as they are: a struct of
+    /// both would be made there only to be taken apart here.
     pub(crate) fn amend(&mut self, class: usize, time: u32) -> Result<(), Refusal>
         ensures { Did times_in self.old self.new
             (judged (amend_checks (times_in self.old) class time) (slice_set (times_in self.old) class time)) result }

@@ -1,5 +1,5 @@
 // The slots of a table: a task put in among the first of them, and one taken out. The count of those used is a parameter, since the
-// check has no rule yet for a part of an array that is lent out of a struct with ghost fields.
+// borrow checker does not cover yet that a part of the array, `&mut tasks[..count]`, is lent on.
 ghost use Rattle.std.specs.Prelude.{◌≡◌, ◌+◌, ◌-◌, ◌<◌, ◌≤◌, ◌∷◌, map, length, take, drop};
 ghost use Rattle.book.specs.Held.{blank, fields, period_in};
 ghost use Rattle.book.specs.Hyperperiod.{hyperperiod};
@@ -38,7 +38,7 @@ pub(crate) fn hyperperiod(tasks: &[Task]) -> u64
 {
     let mut whole: u64 = 1;
     for task in tasks {
-        whole = lcm(task.period as u64, whole);
+        whole = lcm(task.period, whole);
     }
     whole
 }

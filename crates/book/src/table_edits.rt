@@ -60,7 +60,7 @@ impl Table {
         if count >= MOST_TASKS {
             return Err(Refusal::Full);
         }
-        let cycle = lcm(task.period as u64, self.cycle);
+        let cycle = lcm(task.period, self.cycle);
         if cycle > LONGEST_CYCLE {
             return Err(Refusal::Cycle);
         }

@@ -1,6 +1,7 @@
 // Amending one time of one task.
 use crate::common::{refused, two_tasks};
 use book::book::Book;
+use book::refusal::Refusal;
 use std::test::Fail;
 
 /// The time of the second task at a class.
@@ -12,17 +13,17 @@ fn time(book: &Book, class: usize) -> Option<u32> {
 fn amend_checks_10_5_6_7() -> Result<(), Fail> {
     let mut book = two_tasks()?;
     let before = book;
-    // number, class, time and the number of the refusal
+    // number, class, time and the refusal
     let cases = [
-        (3, 9, 0, 10),
-        (2, 4, 0, 5),
-        (2, 255, 1, 5),
-        (2, 1, 0, 6),
-        (2, 0, 1_000_001, 6),
-        (2, 1, 13, 7),
-        (2, 1, 8, 7),
-        (2, 0, 8, 7),
-        (2, 3, 10, 7),
+        (3, 9, 0, Refusal::Unknown),
+        (2, 4, 0, Refusal::Class),
+        (2, 255, 1, Refusal::Class),
+        (2, 1, 0, Refusal::Time),
+        (2, 0, 1_000_001, Refusal::Time),
+        (2, 1, 13, Refusal::Rising),
+        (2, 1, 8, Refusal::Rising),
+        (2, 0, 8, Refusal::Rising),
+        (2, 3, 10, Refusal::Rising),
     ];
     for (number, class, time, by) in cases {
         let answer = book.amend(number, class, time);

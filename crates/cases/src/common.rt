@@ -4,20 +4,15 @@ use book::new_task::NewTask;
 use book::refusal::Refusal;
 use std::test::Fail;
 
-/// The number of the refusal; none where the call was done.
-pub(crate) fn refusal<T: Drop>(answer: Result<T, Refusal>) -> Option<u8> {
-    answer.err().map(|refusal| refusal.number())
-}
-
-/// The call was refused by this number, and the whole book is as it was.
+/// The call was refused by this, and the whole book is as it was.
 pub(crate) fn refused(
     answer: Result<(), Refusal>,
-    by: u8,
+    by: Refusal,
     before: &Book,
     after: &Book,
 ) -> Result<(), Fail> {
-    if refusal(answer) != Some(by) {
-        return Err(Fail::new("the answer has another number"));
+    if answer != Err(by) {
+        return Err(Fail::new("another answer"));
     }
     if before != after {
         return Err(Fail::new("the book is not as it was"));
@@ -26,7 +21,7 @@ pub(crate) fn refused(
 }
 
 /// A task that is to be entered.
-pub(crate) fn task(number: u8, period: u32, deadline: u32, times: &[u32]) -> NewTask<'_> {
+pub(crate) fn new_task(number: u8, period: u32, deadline: u32, times: &[u32]) -> NewTask<'_> {
     NewTask {
         number,
         period,
@@ -39,7 +34,7 @@ pub(crate) fn task(number: u8, period: u32, deadline: u32, times: &[u32]) -> New
 pub(crate) fn two_tasks() -> Result<Book, Fail> {
     let mut book = Book::new();
     book.make(4)?;
-    book.enter(task(1, 10, 5, &[4, 3, 2]))?;
-    book.enter(task(2, 20, 20, &[12, 9, 9, 5]))?;
+    book.enter(new_task(1, 10, 5, &[4, 3, 2]))?;
+    book.enter(new_task(2, 20, 20, &[12, 9, 9, 5]))?;
     Ok(book)
 }

@@ -1,14 +1,15 @@
 // Making a book, entering tasks and withdrawing them.
-use crate::common::{refused, task, two_tasks};
+use crate::common::{new_task, refused, two_tasks};
 use book::book::Book;
+use book::refusal::Refusal;
 use std::test::Fail;
 
 #[test]
 fn a_cache_has_1_to_1024_sets(rt: HostRuntime) -> Result<(), Fail> {
     let mut book = two_tasks()?;
     let before = book;
-    refused(book.make(0), 1, &before, &book)?;
-    refused(book.make(1025), 1, &before, &book)?;
+    refused(book.make(0), Refusal::Cache, &before, &book)?;
+    refused(book.make(1025), Refusal::Cache, &before, &book)?;
     book.make(1024)?;
     assert_eq!(rt; book.cache_size(), 1024);
     assert_eq!(rt; book.task_count(), 0);
@@ -20,25 +21,28 @@ fn a_cache_has_1_to_1024_sets(rt: HostRuntime) -> Result<(), Fail> {
 fn enter_refuses_by_the_first_check_that_applies(rt: HostRuntime) -> Result<(), Fail> {
     let mut book = two_tasks()?;
     let before = book;
-    // number, period, deadline, the first and second of as many times, and the number of the refusal: a later check would
-    // apply to most of them too
-    let cases = [
-        (0, 0, 0, [9, 9], 0, 2),
-        (3, 0, 0, [9, 9], 0, 3),
-        (3, 1_000_001, 0, [9, 9], 0, 3),
-        (3, 10, 0, [9, 9], 0, 4),
-        (3, 10, 11, [9, 9], 0, 4),
-        (3, 10, 10, [9, 9], 0, 5),
-        (3, 10, 10, [0, 9], 12, 5),
-        (3, 10, 10, [1, 2], 3, 6),
-        (3, 10, 10, [1_000_001, 9], 1, 6),
-        (1, 10, 10, [1, 2], 2, 7),
-        (1, 10, 10, [1, 1], 2, 8),
+    // number, period, deadline, times and the refusal: a later check would apply to most of them too
+    let cases: [(u8, u32, u32, &[u32], Refusal); 11] = [
+        (0, 0, 0, &[], Refusal::Number),
+        (3, 0, 0, &[], Refusal::Period),
+        (3, 1_000_001, 0, &[], Refusal::Period),
+        (3, 10, 0, &[], Refusal::Deadline),
+        (3, 10, 11, &[], Refusal::Deadline),
+        (3, 10, 10, &[], Refusal::Class),
+        (
+            3,
+            10,
+            10,
+            &[0, 9, 0, 0, 0, 0, 0, 0, 0, 0, 0, 0],
+            Refusal::Class,
+        ),
+        (3, 10, 10, &[1, 2, 0], Refusal::Time),
+        (3, 10, 10, &[1_000_001], Refusal::Time),
+        (1, 10, 10, &[1, 2], Refusal::Rising),
+        (1, 10, 10, &[1, 1], Refusal::Taken),
     ];
-    for (number, period, deadline, [first, second], count, by) in cases {
-        let times = [first, second, 0, 0, 0, 0, 0, 0, 0, 0, 0, 0];
-        assert!(rt; count <= 12);
-        let answer = book.enter(task(number, period, deadline, &times[0..count]));
+    for (number, period, deadline, times, by) in cases {
+        let answer = book.enter(new_task(number, period, deadline, times));
         refused(answer, by, &before, &book)?;
     }
     Ok(())
@@ -47,8 +51,8 @@ fn enter_refuses_by_the_first_check_that_applies(rt: HostRuntime) -> Result<(), 
 #[test]
 fn a_row_has_1_to_11_times(rt: HostRuntime) -> Result<(), Fail> {
     let mut book = Book::new();
-    book.enter(task(7, 1_000_000, 1, &[1_000_000]))?;
-    book.enter(task(9, 1, 1, &[11, 10, 9, 8, 7, 6, 5, 4, 3, 2, 1]))?;
+    book.enter(new_task(7, 1_000_000, 1, &[1_000_000]))?;
+    book.enter(new_task(9, 1, 1, &[11, 10, 9, 8, 7, 6, 5, 4, 3, 2, 1]))?;
     assert_eq!(rt; book.task_count(), 2);
     assert_eq!(rt; book.hyperperiod(), 1_000_000);
     Ok(())
@@ -58,16 +62,26 @@ fn a_row_has_1_to_11_times(rt: HostRuntime) -> Result<(), Fail> {
 fn a_book_has_sixteen_tasks_at_most(rt: HostRuntime) -> Result<(), Fail> {
     let mut book = Book::new();
     for number in 1..17u8 {
-        book.enter(task(17 - number, 100, 50, &[3, 2]))?;
+        book.enter(new_task(17 - number, 100, 50, &[3, 2]))?;
     }
     assert_eq!(rt; book.task_count(), 16);
     let before = book;
-    refused(book.enter(task(16, 100, 50, &[3, 2])), 8, &before, &book)?;
-    refused(book.enter(task(17, 100, 50, &[3, 2])), 9, &before, &book)?;
+    refused(
+        book.enter(new_task(16, 100, 50, &[3, 2])),
+        Refusal::Taken,
+        &before,
+        &book,
+    )?;
+    refused(
+        book.enter(new_task(17, 100, 50, &[3, 2])),
+        Refusal::Full,
+        &before,
+        &book,
+    )?;
     // the count of tasks comes before the hyperperiod
     refused(
-        book.enter(task(18, 999_983, 50, &[3, 2])),
-        9,
+        book.enter(new_task(18, 999_983, 50, &[3, 2])),
+        Refusal::Full,
         &before,
         &book,
     )?;
@@ -81,10 +95,15 @@ fn a_book_has_sixteen_tasks_at_most(rt: HostRuntime) -> Result<(), Fail> {
 #[test]
 fn a_hyperperiod_is_at_most_10000000000(rt: HostRuntime) -> Result<(), Fail> {
     let mut book = Book::new();
-    book.enter(task(5, 100_000, 1, &[1]))?;
+    book.enter(new_task(5, 100_000, 1, &[1]))?;
     let before = book;
-    refused(book.enter(task(6, 100_001, 1, &[1])), 11, &before, &book)?;
-    book.enter(task(6, 99_999, 1, &[1]))?;
+    refused(
+        book.enter(new_task(6, 100_001, 1, &[1])),
+        Refusal::Cycle,
+        &before,
+        &book,
+    )?;
+    book.enter(new_task(6, 99_999, 1, &[1]))?;
     assert_eq!(rt; book.hyperperiod(), 9_999_900_000);
     book.withdraw(5)?;
     assert_eq!(rt; book.hyperperiod(), 99_999);
@@ -95,13 +114,13 @@ fn a_hyperperiod_is_at_most_10000000000(rt: HostRuntime) -> Result<(), Fail> {
 fn withdraw_takes_out_one_task(rt: HostRuntime) -> Result<(), Fail> {
     let mut book = two_tasks()?;
     let before = book;
-    refused(book.withdraw(3), 10, &before, &book)?;
+    refused(book.withdraw(3), Refusal::Unknown, &before, &book)?;
     book.withdraw(1)?;
     assert_eq!(rt; book.task_count(), 1);
     assert_eq!(rt; book.hyperperiod(), 20);
-    book.enter(task(1, 10, 5, &[4, 3, 2]))?;
+    book.enter(new_task(1, 10, 5, &[4, 3, 2]))?;
     // equal books are equal values, whatever calls made them
-    refused(book.withdraw(9), 10, &before, &book)?;
+    refused(book.withdraw(9), Refusal::Unknown, &before, &book)?;
     book.withdraw(2)?;
     book.withdraw(1)?;
     assert_eq!(rt; book.hyperperiod(), 1);
@@ -112,10 +131,25 @@ fn withdraw_takes_out_one_task(rt: HostRuntime) -> Result<(), Fail> {
 fn append_wants_a_number_above_the_last(rt: HostRuntime) -> Result<(), Fail> {
     let mut book = two_tasks()?;
     let before = book;
-    refused(book.append(task(2, 10, 10, &[1])), 23, &before, &book)?;
-    refused(book.append(task(1, 10, 10, &[1])), 23, &before, &book)?;
-    refused(book.append(task(1, 10, 10, &[1, 2])), 7, &before, &book)?;
-    book.append(task(255, 10, 10, &[1]))?;
+    refused(
+        book.append(new_task(2, 10, 10, &[1])),
+        Refusal::Order,
+        &before,
+        &book,
+    )?;
+    refused(
+        book.append(new_task(1, 10, 10, &[1])),
+        Refusal::Order,
+        &before,
+        &book,
+    )?;
+    refused(
+        book.append(new_task(1, 10, 10, &[1, 2])),
+        Refusal::Rising,
+        &before,
+        &book,
+    )?;
+    book.append(new_task(255, 10, 10, &[1]))?;
     assert_eq!(rt; book.task_count(), 3);
     Ok(())
 }

@@ -1,6 +1,6 @@
 // Charges, margins and piles of them.
-use crate::common::refusal;
 use crate::questions::book_of;
+use book::refusal::Refusal;
 use schedule::any_change::AnyChange;
 use schedule::charge::Charge;
 use schedule::earliest_deadline::EarliestDeadline;
@@ -17,20 +17,20 @@ fn layers_are_made_within_their_ranges(rt: HostRuntime) {
     for (ticks, by) in [
         (0, None),
         (1_000, None),
-        (1_001, Some(24)),
-        (u32::MAX, Some(24)),
+        (1_001, Some(Refusal::Charge)),
+        (u32::MAX, Some(Refusal::Charge)),
     ] {
-        assert_eq!(rt; refusal(Charge::try_from(ticks)), by);
+        assert_eq!(rt; Charge::try_from(ticks).err(), by);
     }
     for (thousandths, by) in [
-        (0, Some(25)),
-        (999, Some(25)),
+        (0, Some(Refusal::Margin)),
+        (999, Some(Refusal::Margin)),
         (1_000, None),
         (4_000, None),
-        (4_001, Some(25)),
-        (u32::MAX, Some(25)),
+        (4_001, Some(Refusal::Margin)),
+        (u32::MAX, Some(Refusal::Margin)),
     ] {
-        assert_eq!(rt; refusal(Margin::try_from(thousandths)), by);
+        assert_eq!(rt; Margin::try_from(thousandths).err(), by);
     }
 }
 

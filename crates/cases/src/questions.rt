@@ -1,5 +1,5 @@
 // Both tests and the search, asked about times whose answers are worked out by hand.
-use crate::common::task;
+use crate::common::new_task;
 use book::book::Book;
 use schedule::busy_period::BusyPeriod;
 use schedule::demand::least_solution;
@@ -14,7 +14,7 @@ use std::test::Fail;
 pub(crate) fn book_of(tasks: &[(u32, u32)]) -> Result<Book, Fail> {
     let mut book = Book::new();
     for (number, (period, deadline)) in (1u8..).zip(tasks) {
-        book.enter(task(number, *period, *deadline, &[1]))?;
+        book.enter(new_task(number, *period, *deadline, &[1]))?;
     }
     Ok(book)
 }
@@ -29,8 +29,7 @@ fn asked(book: &Book, times: &[u32]) -> (bool, bool) {
 
 /// The end of the synchronous busy period of the book's tasks at the times, up to the limit.
 fn busy_period(book: &Book, times: &[u32], limit: u64) -> Option<u64> {
-    let tasks = book.tasks();
-    least_solution(&BusyPeriod, TimedTasks { tasks, times }, limit)
+    least_solution(&BusyPeriod, TimedTasks::of(book, times), limit)
 }
 
 #[test]

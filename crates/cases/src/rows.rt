@@ -1,5 +1,5 @@
 // Rows made from their times.
-use crate::common::refusal;
+use book::refusal::Refusal;
 use book::row::Row;
 use std::test::Fail;
 
@@ -9,10 +9,19 @@ fn a_row_is_made_of_times_that_keep_its_rules(rt: HostRuntime) -> Result<(), Fai
     let row = Row::try_from(times.as_slice())?;
     assert!(rt; row.times() == times.as_slice());
     let none: [u32; 0] = [];
-    assert_eq!(rt; refusal(Row::try_from(none.as_slice())), Some(5));
-    assert_eq!(rt; refusal(Row::try_from([1; 12].as_slice())), Some(5));
-    assert_eq!(rt; refusal(Row::try_from([1; 11].as_slice())), None);
-    assert_eq!(rt; refusal(Row::try_from([1_000_001, 0].as_slice())), Some(6));
-    assert_eq!(rt; refusal(Row::try_from([1, 2].as_slice())), Some(7));
+    assert_eq!(rt; Row::try_from(none.as_slice()).err(), Some(Refusal::Class));
+    assert_eq!(rt;
+        Row::try_from([1; 12].as_slice()).err(),
+        Some(Refusal::Class)
+    );
+    assert_eq!(rt; Row::try_from([1; 11].as_slice()).err(), None);
+    assert_eq!(rt;
+        Row::try_from([1_000_001, 0].as_slice()).err(),
+        Some(Refusal::Time)
+    );
+    assert_eq!(rt;
+        Row::try_from([1, 2].as_slice()).err(),
+        Some(Refusal::Rising)
+    );
     Ok(())
 }

@@ -1,6 +1,8 @@
 // Loading and writing sheets.
-use crate::common::{refusal, task, two_tasks};
+use crate::common::{new_task, two_tasks};
 use book::book::Book;
+use book::refusal::Refusal;
+use sheet::fault::Fault;
 use sheet::load::load;
 use sheet::write::write;
 use std::test::Fail;
@@ -11,13 +13,12 @@ const TWO_TASKS: [u8; 51] = [
     20, 0, 0, 0, 20, 0, 0, 0, 12, 0, 0, 0, 9, 0, 0, 0, 9, 0, 0, 0, 5,
 ];
 
-/// The sheet is refused by this number at this place, and the whole book is as it was.
-fn refused(sheet: &[u8], by: u8, at: usize) -> Result<(), Fail> {
+/// The sheet is refused by this at this place, and the whole book is as it was.
+fn refused(sheet: &[u8], refusal: Refusal, place: usize) -> Result<(), Fail> {
     let before = two_tasks()?;
     let mut book = before;
-    let fault = load(&mut book, sheet).err();
-    if fault.map(|fault| (fault.refusal.number(), fault.place)) != Some((by, at)) {
-        return Err(Fail::new("the sheet has another fault or none"));
+    if load(&mut book, sheet) != Err(Fault { refusal, place }) {
+        return Err(Fail::new("another answer"));
     }
     if book != before {
         return Err(Fail::new("the book is not as it was"));
@@ -31,7 +32,7 @@ fn the_two_task_sheet_loads_and_is_written_back(rt: HostRuntime) -> Result<(), F
     assert!(rt; load(&mut book, &TWO_TASKS).is_ok());
     assert!(rt; book == two_tasks()?);
     let mut buffer = [170u8; 53];
-    assert_eq!(rt; write(&book, &mut buffer).ok(), Some(51));
+    assert_eq!(rt; write(&book, &mut buffer), Ok(51));
     assert!(rt; &buffer[0..51] == &TWO_TASKS[0..51]);
     assert_eq!(rt; buffer[51], 170);
     assert_eq!(rt; buffer[52], 170);
@@ -42,7 +43,7 @@ fn the_two_task_sheet_loads_and_is_written_back(rt: HostRuntime) -> Result<(), F
 fn a_short_buffer_is_left_as_it_was(rt: HostRuntime) -> Result<(), Fail> {
     let book = two_tasks()?;
     let mut buffer = [170u8; 50];
-    assert_eq!(rt; refusal(write(&book, &mut buffer)), Some(19));
+    assert_eq!(rt; write(&book, &mut buffer), Err(Refusal::Short));
     assert!(rt; buffer == [170u8; 50]);
     Ok(())
 }
@@ -56,47 +57,45 @@ fn the_shortest_sheet_is_an_empty_book(rt: HostRuntime) -> Result<(), Fail> {
 }
 
 #[test]
-fn heads_are_refused_at_0(rt: HostRuntime) -> Result<(), Fail> {
-    // the bytes, how many of them there are, and the number of the refusal: the version comes before the length, the size
-    // before any record
-    let cases = [
-        ([1, 0, 1, 0], 0, 21),
-        ([2, 0, 1, 0], 1, 20),
-        ([1, 0, 1, 0], 1, 21),
-        ([2, 0, 1, 0], 2, 20),
-        ([1, 0, 1, 0], 2, 21),
-        ([1, 0, 0, 0], 3, 1),
-        ([1, 4, 1, 0], 3, 1),
-        ([1, 0, 0, 99], 4, 1),
+fn heads_are_refused_at_0() -> Result<(), Fail> {
+    // the version comes before the length, the size before any record
+    let cases: [(&[u8], Refusal); 8] = [
+        (&[], Refusal::Cut),
+        (&[2], Refusal::Version),
+        (&[1], Refusal::Cut),
+        (&[2, 0], Refusal::Version),
+        (&[1, 0], Refusal::Cut),
+        (&[1, 0, 0], Refusal::Cache),
+        (&[1, 4, 1], Refusal::Cache),
+        (&[1, 0, 0, 99], Refusal::Cache),
     ];
-    for (sheet, count, by) in cases {
-        assert!(rt; count <= 4);
-        refused(&sheet[0..count], by, 0)?;
+    for (sheet, by) in cases {
+        refused(sheet, by, 0)?;
     }
     Ok(())
 }
 
 #[test]
 fn a_cut_record_is_refused_at_its_length_byte() -> Result<(), Fail> {
-    refused(&TWO_TASKS[0..50], 21, 25)?;
-    refused(&TWO_TASKS[0..26], 21, 25)
+    refused(&TWO_TASKS[0..50], Refusal::Cut, 25)?;
+    refused(&TWO_TASKS[0..26], Refusal::Cut, 25)
 }
 
 #[test]
 fn records_are_refused_at_their_length_byte(rt: HostRuntime) -> Result<(), Fail> {
-    // the place of a byte, its new value, and the number of the refusal of the second record
+    // the place of a byte, its new value, and the refusal of the second record
     let cases = [
-        (25, 9, 22),
-        (25, 57, 22),
-        (25, 26, 22),
-        (25, 29, 21),
-        (26, 0, 2),
-        (30, 0, 3),
-        (34, 21, 4),
-        (38, 0, 6),
-        (42, 13, 7),
-        (26, 1, 23),
-        (4, 3, 23),
+        (25, 9, Refusal::Length),
+        (25, 57, Refusal::Length),
+        (25, 26, Refusal::Length),
+        (25, 29, Refusal::Cut),
+        (26, 0, Refusal::Number),
+        (30, 0, Refusal::Period),
+        (34, 21, Refusal::Deadline),
+        (38, 0, Refusal::Time),
+        (42, 13, Refusal::Rising),
+        (26, 1, Refusal::Order),
+        (4, 3, Refusal::Order),
     ];
     for (index, byte, by) in cases {
         let mut sheet = TWO_TASKS;
@@ -110,13 +109,13 @@ fn records_are_refused_at_their_length_byte(rt: HostRuntime) -> Result<(), Fail>
 #[test]
 fn the_hyperperiod_is_read_on_the_earlier_records(rt: HostRuntime) -> Result<(), Fail> {
     let mut book = Book::new();
-    book.enter(task(5, 100_000, 1, &[1]))?;
-    book.enter(task(6, 99_999, 1, &[1]))?;
+    book.enter(new_task(5, 100_000, 1, &[1]))?;
+    book.enter(new_task(6, 99_999, 1, &[1]))?;
     let mut sheet = [0u8; 31];
-    assert_eq!(rt; write(&book, &mut sheet).ok(), Some(31));
+    assert_eq!(rt; write(&book, &mut sheet), Ok(31));
     // 99,999 is 0x1869f, and 100,001 is 0x186a1
     sheet[22] = 161;
-    refused(&sheet, 11, 17)
+    refused(&sheet, Refusal::Cycle, 17)
 }
 
 /// Puts the record before the last one over the last, which is of the same size.
@@ -134,7 +133,7 @@ fn largest() -> Result<Book, Fail> {
     let mut book = Book::new();
     book.make(1024)?;
     for number in 240..=255 {
-        book.enter(task(number, 1000, 1000, &[11, 10, 9, 8, 7, 6, 5, 4, 3, 2, 1]))?;
+        book.enter(new_task(number, 1000, 1000, &[11, 10, 9, 8, 7, 6, 5, 4, 3, 2, 1]))?;
     }
     Ok(book)
 }
@@ -143,7 +142,7 @@ fn largest() -> Result<Book, Fail> {
 fn the_largest_sheet_goes_round(rt: HostRuntime) -> Result<(), Fail> {
     let book = largest()?;
     let mut sheet = [0u8; 867];
-    assert_eq!(rt; write(&book, &mut sheet).ok(), Some(867));
+    assert_eq!(rt; write(&book, &mut sheet), Ok(867));
     let mut again = Book::new();
     assert!(rt; load(&mut again, &sheet).is_ok());
     assert!(rt; again == book);
@@ -153,22 +152,22 @@ fn the_largest_sheet_goes_round(rt: HostRuntime) -> Result<(), Fail> {
 #[test]
 fn the_number_of_a_seventeenth_record_comes_first(rt: HostRuntime) -> Result<(), Fail> {
     let mut sheet = [0u8; 921];
-    assert_eq!(rt; write(&largest()?, &mut sheet).ok(), Some(867));
+    assert_eq!(rt; write(&largest()?, &mut sheet), Ok(867));
     repeat_record(&mut sheet, 54)?;
-    refused(&sheet, 23, 867)?;
+    refused(&sheet, Refusal::Order, 867)?;
     sheet[868] = 0;
-    refused(&sheet, 2, 867)
+    refused(&sheet, Refusal::Number, 867)
 }
 
 #[test]
 fn a_seventeenth_record_is_refused(rt: HostRuntime) -> Result<(), Fail> {
     let mut book = Book::new();
     for number in 1..17u8 {
-        book.enter(task(number, 100, 50, &[3]))?;
+        book.enter(new_task(number, 100, 50, &[3]))?;
     }
     let mut sheet = [0u8; 241];
-    assert_eq!(rt; write(&book, &mut sheet).ok(), Some(227));
+    assert_eq!(rt; write(&book, &mut sheet), Ok(227));
     repeat_record(&mut sheet, 14)?;
     sheet[228] = 17;
-    refused(&sheet, 9, 227)
+    refused(&sheet, Refusal::Full, 227)
 }

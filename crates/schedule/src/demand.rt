@@ -18,7 +18,8 @@ pub trait Demand {
 
     ghost some: { (demand : Self) (ts : List TaskRecord) (xs : List ℕ) (t : ℕ) → 1 ≤ t → 1 ≤ asked demand ts xs t };
 
-    ghost grows: { (demand : Self) (ts : List TaskRecord) (xs : List ℕ) (s t : ℕ) → 1 ≤ s → s ≤ t → asked demand ts xs s ≤ asked demand ts xs t };
+    ghost grows: { (demand : Self) (ts : List TaskRecord) (xs : List ℕ) (s t : ℕ) → 1 ≤ s → s ≤ t
+        → asked demand ts xs s ≤ asked demand ts xs t };
 }
 
 /// The least t from 1 to the limit at which t ticks ask for t ticks of work, or none.

@@ -7,7 +7,7 @@ ghost use Rattle.schedule.specs.Pairs.{timed_in};
 
 use crate::timed_tasks::TimedTasks;
 
-/// What is due by an instant: the work, and the latest deadline up to it, or 0.
+/// What is due by an instant: the work, and an instant by which all of it is due, 0 where nothing is.
 #[derive(Clone, Copy)]
 struct Due {
     work: u64,

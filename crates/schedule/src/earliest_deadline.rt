@@ -24,10 +24,7 @@ impl Test for EarliestDeadline {
         ensures lawful { Lawful (λ l xs. earliest_deadline l.tasks xs) }
         ensures exact { Exactly result (AlwaysMet (holds book.now).tasks times.now) }
     {
-        let timed = TimedTasks {
-            tasks: book.tasks(),
-            times,
-        };
+        let timed = TimedTasks::of(book, times);
         if !timed.is_well_shaped() {
             return false;
         }

@@ -1,5 +1,5 @@
 // Layers: a test over any test, asking it with changed times.
-ghost use Rattle.std.specs.Prelude.{◌≡◌, ◌-◌, ◌≤◌, map, length, take};
+ghost use Rattle.std.specs.Prelude.{◌≡◌, ◌≤◌, map, length};
 ghost use Rattle.schedule.specs.Layers.{layered, layered_told};
 ghost use Rattle.schedule.specs.Lemmas.Layered.{layered_lawful, layered_tells};
 
@@ -7,6 +7,7 @@ use crate::change::{Change, change_all};
 use crate::test::Test;
 use crate::timed_tasks::TimedTasks;
 use crate::timing_test::TimingTest;
+use arrayvec::ArrayVec;
 use book::book::Book;
 use book::limits::MOST_TASKS;
 
@@ -17,17 +18,14 @@ pub struct Layer<C, T> {
     pub below: T,
 }
 
-/// The changed times, in front of a table that has room for a book's.
-fn changed_times<C: Change>(change: &C, times: &[u32]) -> [u32; MOST_TASKS]
+/// The changed times. They have room: there is one for each task of a book.
+fn changed_times<C: Change>(change: &C, times: &[u32]) -> ArrayVec<u32, MOST_TASKS>
     requires { length times.now ≤ 16 }
-    ensures long { length result ≡ 16 }
-    ensures front { take (length times.now - 0) result ≡ map (C.Change.changed change.now) times.now }
+    ensures { result.items ≡ map (C.Change.changed change.now) times.now }
 {
-    let mut table = [0; MOST_TASKS];
-    let changed = &mut table[..times.len()];
-    changed.copy_from_slice(times);
-    change_all(change, changed);
-    table
+    let mut changed = ArrayVec::try_from(times).unwrap();
+    change_all(change, changed.as_mut_slice());
+    changed
 }
 
 impl<C: Change, T: Test> Test for Layer<C, T> {
@@ -38,15 +36,12 @@ impl<C: Change, T: Test> Test for Layer<C, T> {
         (T.Test.passes layer.below) (T.Test.lawful layer.below) };
 
     fn ask(&self, book: &Book, times: &[u32]) -> bool {
-        let timed = TimedTasks {
-            tasks: book.tasks(),
-            times,
-        };
+        let timed = TimedTasks::of(book, times);
         if !timed.is_well_shaped() {
             return false;
         }
         let changed = changed_times(&self.change, times);
-        self.below.ask(book, &changed[..times.len()])
+        self.below.ask(book, changed.as_slice())
     }
 }
 
@@ -60,14 +55,11 @@ impl<C: Change, T: TimingTest> TimingTest for Layer<C, T> {
         (T.TimingTest.tells layer.below l keeps (map change xs) place) };
 
     fn tell(&self, book: &Book, times: &[u32], place: usize) -> Option<u32> {
-        let timed = TimedTasks {
-            tasks: book.tasks(),
-            times,
-        };
+        let timed = TimedTasks::of(book, times);
         if !timed.is_well_shaped() {
             return None;
         }
         let changed = changed_times(&self.change, times);
-        self.below.tell(book, &changed[..times.len()], place)
+        self.below.tell(book, changed.as_slice(), place)
     }
 }

@@ -7,6 +7,8 @@ ghost use Rattle.schedule.specs.Laws.{Lawful};
 use book::book::Book;
 
 /// A schedulability test: yes (the list passes) or no to a book and one execution time for each of its tasks.
+/// Book and times stay apart here: a caller keeps the one and varies the other, and a `TimedTasks` of any tasks would lose the
+/// rules that a book keeps.
 pub trait Test {
     /// The meaning: the answer to each ledger and each list of times.
     ghost passes: { Self → Ledger → List ℕ → Bool };

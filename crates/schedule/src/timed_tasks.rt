@@ -1,4 +1,10 @@
 // Tasks with their execution times.
+ghost use Rattle.std.specs.Prelude.{◌≡◌};
+ghost use Rattle.book.specs.Books.{holds};
+ghost use Rattle.book.specs.Keeping.{KeepsRules};
+ghost use Rattle.schedule.specs.Pairs.{tasks_in};
+
+use book::book::Book;
 use book::task::Task;
 
 /// Tasks beside the execution times that they are tested at, paired in order; what has no partner is left out of account.
@@ -6,4 +12,18 @@ use book::task::Task;
 pub struct TimedTasks<'a> {
     pub tasks: &'a [Task],
     pub times: &'a [u32],
+}
+
+impl<'a> TimedTasks<'a> {
+    /// The tasks of the book beside the times.
+    pub fn of(book: &'a Book, times: &'a [u32]) -> TimedTasks<'a>
+        ensures tasks { tasks_in result ≡ (holds book.now).tasks }
+        ensures times { result.times.now ≡ times.now }
+        ensures keeps { KeepsRules (holds book.now) }
+    {
+        TimedTasks {
+            tasks: book.tasks(),
+            times,
+        }
+    }
 }

@@ -20,5 +20,6 @@ pub trait TimingTest: Test {
         ensures tells { Tells (Self.Test.passes self.now (holds book.now) times.now)
             (holds book.now).tasks place result };
 
-    ghost tells: { (test : Self) (l : Ledger) → KeepsRules l → (xs : List ℕ) (place : ℕ) → Tells (Self.Test.passes test l xs) l.tasks place (told test l xs place) };
+    ghost tells: { (test : Self) (l : Ledger) → KeepsRules l → (xs : List ℕ) (place : ℕ)
+        → Tells (Self.Test.passes test l xs) l.tasks place (told test l xs place) };
 }

@@ -14,7 +14,8 @@ pub(crate) struct Writer<'a> {
 }
 
 impl Writer<'_> {
-    /// Puts the bytes.
+    /// Puts the bytes. A text of `report` does the same to an array of its own. These three lines are no function that both call:
+    /// it would take buffer and place apart again, which a writer keeps together.
     pub(crate) fn put(&mut self, bytes: &[u8])
         requires { HasRoom self.old bytes.now }
         ensures { Puts self.old self.new bytes.now }

@@ -1,5 +1,7 @@
 // The answers to the calls of a script.
+use arrayvec::ArrayVec;
 use book::book::Book;
+use book::limits::MOST_TASKS;
 use book::refusal::Refusal;
 use sheet::fault::Fault;
 
@@ -7,9 +9,9 @@ use sheet::fault::Fault;
 #[derive(Drop)]
 pub struct ListAnswers {
     pub list: Result<(), Refusal>,
-    pub sizes: Result<Vec<u16>, Refusal>,
+    pub sizes: Result<ArrayVec<u16, MOST_TASKS>, Refusal>,
     pub fit: Result<(), Refusal>,
-    pub times: Result<Vec<u32>, Refusal>,
+    pub times: Result<ArrayVec<u32, MOST_TASKS>, Refusal>,
     pub work: Result<u64, Refusal>,
 }
 

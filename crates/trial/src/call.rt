@@ -13,7 +13,7 @@ pub struct Entry {
 
 impl Entry {
     /// The task as a book takes it.
-    pub(crate) fn task(&self) -> NewTask<'_> {
+    pub(crate) fn new_task(&self) -> NewTask<'_> {
         NewTask {
             number: self.number,
             period: self.period,

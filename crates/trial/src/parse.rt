@@ -1,6 +1,7 @@
 // Reading a line of a script: the name of a call and its arguments, in words.
 use crate::call::{Call, Entry};
 use crate::parse_question::{ask, tell};
+use hex::{FromHexError, decode_to_slice};
 use std::alloc::{AllocError, Global};
 use std::num::ParseIntError;
 use std::str::{Utf8Error, from_utf8};
@@ -15,6 +16,8 @@ pub enum Unread {
     Text(#[from] Utf8Error),
     #[error("no number that the call can take: {0}")]
     Number(#[from] ParseIntError),
+    #[error("no bytes in hexadecimal: {0}")]
+    Hex(#[from] FromHexError),
     #[error("{0}")]
     Memory(#[from(alloc)] AllocError),
 }
@@ -43,7 +46,10 @@ pub(crate) fn parse(heap: Global, line: &[u8]) -> Result<Call, Unread> {
             length: length.parse()?,
         }),
         ["classes", list @ ..] => Ok(Call::Classes {
-            list: each(heap, list, |class| Ok(class.parse()?))?,
+            list: list
+                .iter()
+                .map(|class| -> Result<u8, Unread> { Ok(class.parse()?) })
+                .try_collect(heap)?,
         }),
         ["ask", fields @ ..] => ask(heap, fields),
         ["tell", fields @ ..] => tell(heap, fields),
@@ -60,41 +66,20 @@ fn entry(heap: Global, fields: &[&str]) -> Result<Entry, Unread> {
         number: number.parse()?,
         period: period.parse()?,
         deadline: deadline.parse()?,
-        times: each(heap, times, |time| Ok(time.parse()?))?,
+        times: times
+            .iter()
+            .map(|time| -> Result<u32, Unread> { Ok(time.parse()?) })
+            .try_collect(heap)?,
     })
-}
-
-/// What each of the words reads as.
-pub(crate) fn each<T: Drop, F: FnMut(&str) -> Result<T, Unread>>(
-    heap: Global,
-    words: &[&str],
-    mut read: F,
-) -> Result<Vec<T>, Unread>
-    requires { F.IsAlwaysCallable read }
-{
-    let mut all = Vec::new(heap);
-    for word in words {
-        all.push(read(word)?)?;
-    }
-    Ok(all)
 }
 
 /// The bytes of a sheet in hexadecimal, two digits each; the empty sheet has no word.
 fn bytes(heap: Global, words: &[&str]) -> Result<Vec<u8>, Unread> {
     let mut bytes = Vec::new(heap);
     for word in words {
-        for pair in word.as_bytes().chunks(2) {
-            let [high, low] = pair else {
-                return Err(Unread::Foreign);
-            };
-            bytes.push(digit(*high)? << 4 | digit(*low)?)?;
-        }
+        let mut part = vec![in heap; 0; word.len() / 2]?;
+        decode_to_slice(*word, part.as_mut_slice())?;
+        bytes.append(&mut part)?;
     }
     Ok(bytes)
-}
-
-/// The value of a hexadecimal digit.
-fn digit(byte: u8) -> Result<u8, Unread> {
-    let value = char::from(byte).to_digit(16).ok_or(Unread::Foreign)?;
-    Ok(value as u8)
 }

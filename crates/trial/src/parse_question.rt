@@ -1,8 +1,9 @@
 // Reading a question to the schedulability tests.
 use crate::call::Call;
-use crate::parse::{Unread, each};
+use crate::parse::Unread;
 use crate::question::{LayerEntry, Question, TestName};
 use std::alloc::Global;
+use std::str::FromStr;
 
 /// The most layers of a pile.
 const MOST_LAYERS: usize = 3;
@@ -13,7 +14,7 @@ pub(crate) fn ask(heap: Global, fields: &[&str]) -> Result<Call, Unread> {
         return Err(Unread::Foreign);
     };
     Ok(Call::Ask {
-        test: test_name(test)?,
+        test: test.parse()?,
         question: question(heap, pile, times)?,
     })
 }
@@ -33,16 +34,22 @@ pub(crate) fn tell(heap: Global, fields: &[&str]) -> Result<Call, Unread> {
 fn question(heap: Global, pile: &str, times: &[&str]) -> Result<Question, Unread> {
     Ok(Question {
         layers: layers(heap, pile)?,
-        times: each(heap, times, plain_number)?,
+        times: times
+            .iter()
+            .map(|time| plain_number(time))
+            .try_collect(heap)?,
     })
 }
 
-/// The name of a test.
-fn test_name(word: &str) -> Result<TestName, Unread> {
-    match word {
-        "fixed" => Ok(TestName::Fixed),
-        "earliest" => Ok(TestName::Earliest),
-        _ => Err(Unread::Foreign),
+impl FromStr for TestName {
+    type Err = Unread;
+
+    fn from_str(word: &str) -> Result<TestName, Unread> {
+        match word {
+            "fixed" => Ok(TestName::Fixed),
+            "earliest" => Ok(TestName::Earliest),
+            _ => Err(Unread::Foreign),
+        }
     }
 }
 
@@ -55,18 +62,26 @@ fn layers(heap: Global, word: &str) -> Result<Vec<LayerEntry>, Unread> {
     if words.len() > MOST_LAYERS {
         return Err(Unread::Foreign);
     }
-    each(heap, words.as_slice(), layer)
+    words
+        .as_slice()
+        .iter()
+        .map(|layer| -> Result<LayerEntry, Unread> { layer.parse() })
+        .try_collect(heap)
 }
 
 /// A layer: the letter of its kind and its number.
-fn layer(word: &str) -> Result<LayerEntry, Unread> {
-    if let Some(ticks) = word.strip_prefix('c') {
-        return Ok(LayerEntry::Charge(plain_number(ticks)?));
+impl FromStr for LayerEntry {
+    type Err = Unread;
+
+    fn from_str(word: &str) -> Result<LayerEntry, Unread> {
+        if let Some(ticks) = word.strip_prefix('c') {
+            return Ok(LayerEntry::Charge(plain_number(ticks)?));
+        }
+        if let Some(thousandths) = word.strip_prefix('m') {
+            return Ok(LayerEntry::Margin(plain_number(thousandths)?));
+        }
+        Err(Unread::Foreign)
     }
-    if let Some(thousandths) = word.strip_prefix('m') {
-        return Ok(LayerEntry::Margin(plain_number(thousandths)?));
-    }
-    Err(Unread::Foreign)
 }
 
 /// The number that a word spells in digits alone, with no sign.

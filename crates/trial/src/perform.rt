@@ -1,8 +1,9 @@
 // Carrying out a call on the book.
 use crate::answer::{Answer, ListAnswers};
 use crate::call::Call;
-use crate::failure::{Failure, answer};
+use crate::failure::answer;
 use crate::question::{ask, tell};
+use arrayvec::ArrayVec;
 use book::book::Book;
 use book::limits::MOST_TASKS;
 use book::refusal::Refusal;
@@ -17,8 +18,8 @@ const UNTOUCHED: u8 = 0xaa;
 pub(crate) fn perform(heap: Global, book: &mut Book, call: &Call) -> Result<Answer, AllocError> {
     let answer = match call {
         Call::Make { size } => edited(book.make(*size), book),
-        Call::Enter(new) => edited(book.enter(new.task()), book),
-        Call::Append(new) => edited(book.append(new.task()), book),
+        Call::Enter(new) => edited(book.enter(new.new_task()), book),
+        Call::Append(new) => edited(book.append(new.new_task()), book),
         Call::Amend {
             number,
             class,
@@ -30,7 +31,7 @@ pub(crate) fn perform(heap: Global, book: &mut Book, call: &Call) -> Result<Answ
             book: *book,
         },
         Call::Write { length } => write_sheet(heap, book, *length)?,
-        Call::Classes { list } => Answer::Classes(list_answers(heap, book, list.as_slice())?),
+        Call::Classes { list } => Answer::Classes(list_answers(book, list.as_slice())),
         Call::Ask { test, question } => Answer::Ask(answer(ask(heap, book, *test, question))?),
         Call::Tell { place, question } => Answer::Tell(answer(tell(heap, book, *place, question))?),
     };
@@ -53,25 +54,23 @@ fn write_sheet(heap: Global, book: &Book, length: u16) -> Result<Answer, AllocEr
 }
 
 /// Makes every call on a class list.
-fn list_answers(heap: Global, book: &Book, classes: &[u8]) -> Result<ListAnswers, AllocError> {
-    Ok(ListAnswers {
+fn list_answers(book: &Book, classes: &[u8]) -> ListAnswers {
+    ListAnswers {
         list: book.check_list(classes),
-        sizes: answer(front(heap, 0, |buffer| book.list_sizes(classes, buffer)))?,
+        sizes: front(|buffer| book.list_sizes(classes, buffer)),
         fit: book.check_fit(classes),
-        times: answer(front(heap, 0, |buffer| book.list_times(classes, buffer)))?,
+        times: front(|buffer| book.list_times(classes, buffer)),
         work: book.list_work(classes),
-    })
+    }
 }
 
 /// What a call puts into the front of a buffer, which has a place for each task that a book may have.
-fn front<T: Copy, F: FnOnce(&mut [T]) -> Result<usize, Refusal>>(
-    heap: Global,
-    blank: T,
+fn front<T: Copy + Default, F: FnOnce(&mut [T]) -> Result<usize, Refusal>>(
     put: F,
-) -> Result<Vec<T>, Failure>
+) -> Result<ArrayVec<T, MOST_TASKS>, Refusal>
     requires { F.IsAlwaysCallable put }
 {
-    let mut buffer = vec![in heap; blank; MOST_TASKS]?;
+    let mut buffer = ArrayVec::from([T::default(); MOST_TASKS]);
     let count = put(buffer.as_mut_slice())?;
     buffer.truncate(count);
     Ok(buffer)

@@ -47,13 +47,15 @@ pub struct Question {
     pub times: Vec<u32>,
 }
 
-/// The changes of the layers, made in the order written.
-fn changes(heap: Global, layers: &[LayerEntry]) -> Result<Vec<AnyChange>, Failure> {
-    let mut changes = Vec::new(heap);
-    for layer in layers {
-        changes.push(AnyChange::try_from(*layer)?)?;
+impl Question {
+    /// The changes of the layers, made in the order written.
+    fn changes(&self, heap: Global) -> Result<Vec<AnyChange>, Failure> {
+        self.layers
+            .as_slice()
+            .iter()
+            .map(|layer| -> Result<AnyChange, Failure> { Ok(AnyChange::try_from(*layer)?) })
+            .try_collect(heap)
     }
-    Ok(changes)
 }
 
 /// Whether the times pass the test.
@@ -63,7 +65,7 @@ pub(crate) fn ask(
     test: TestName,
     question: &Question,
 ) -> Result<bool, Failure> {
-    let changes = changes(heap, question.layers.as_slice())?;
+    let changes = question.changes(heap)?;
     let change = changes.as_slice();
     let times = question.times.as_slice();
     match test {
@@ -79,7 +81,7 @@ pub(crate) fn tell(
     place: u32,
     question: &Question,
 ) -> Result<Option<u32>, Failure> {
-    let changes = changes(heap, question.layers.as_slice())?;
+    let changes = question.changes(heap)?;
     let times = question.times.as_slice();
     Ok(over(changes.as_slice(), FixedPriority).tell(book, times, place as usize))
 }

@@ -1,6 +1,8 @@
 // The answers in words. Each part of an answer line has a function that writes it.
 use crate::answer::{Answer, ListAnswers};
+use arrayvec::ArrayVec;
 use book::book::Book;
+use book::limits::MOST_TASKS;
 use book::refusal::Refusal;
 use sheet::fault::Fault;
 use std::fmt;
@@ -59,13 +61,11 @@ fn done<W: fmt::Write>(f: &mut fmt::Formatter<W>, _: &()) -> fmt::Result {
 
 /// The result of a load; a fault has its place on the sheet.
 fn loaded<W: fmt::Write>(f: &mut fmt::Formatter<W>, answer: Result<(), Fault>) -> fmt::Result {
-    match answer {
-        Ok(()) => f.write_str("ok"),
-        Err(Fault { refusal, place }) => {
-            refused(f, refusal)?;
-            write!(f, " at {place}")
-        }
+    outcome(f, &answer.map_err(|fault| fault.refusal), done)?;
+    if let Err(fault) = answer {
+        write!(f, " at {}", fault.place)?;
     }
+    Ok(())
 }
 
 /// The whole book behind the result of an edit: its size, count and hyperperiod, and then the fields of each task.
@@ -110,15 +110,12 @@ fn classes<W: fmt::Write>(f: &mut fmt::Formatter<W>, answers: &ListAnswers) -> f
 /// The list that a call gives, or its refusal, behind a space.
 fn list<W: fmt::Write, T: fmt::Display>(
     f: &mut fmt::Formatter<W>,
-    answer: &Result<Vec<T>, Refusal>,
+    answer: &Result<ArrayVec<T, MOST_TASKS>, Refusal>,
 ) -> fmt::Result {
-    match answer {
-        Ok(list) => numbers(f, list.as_slice()),
-        Err(refusal) => {
-            f.write_str(" ")?;
-            refused(f, *refusal)
-        }
+    if answer.is_err() {
+        f.write_str(" ")?;
     }
+    outcome(f, answer, |f, list| numbers(f, list.as_slice()))
 }
 
 /// Numbers, each behind a space.
