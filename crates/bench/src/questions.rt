@@ -39,6 +39,7 @@ impl Questions {
         if times.len() != self.book.task_count() {
             return Err(anyhow!("a list of another length than the tasks"));
         }
+        // They go behind those that stand: collecting them apart would take a second vector.
         for time in times {
             self.lists.push(time.parse::<u32>()?)?;
         }

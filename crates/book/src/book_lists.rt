@@ -37,7 +37,8 @@ impl Book {
         }
     }
 
-    /// How many values the list gives, if it is one and the buffer has room for them.
+    /// How many values the list gives, if it is one and the buffer has room for them. Classes and buffer stay two: the buffer is
+    /// the caller's, who reads it behind the call.
     fn value_count<T>(&self, classes: &[u8], buffer: &[T]) -> Result<usize, Refusal>
         ensures { result
             ≡ judged

@@ -5,8 +5,8 @@ ghost use Rattle.book.specs.Rules.{Falling, Within};
 use crate::limits::MOST_TIMES;
 
 /// The worst-case execution times of a task by partition class: 1 to 11 times of 1 to 1,000,000 ticks, none above the one before it.
-/// The slots behind them hold 1, so that equal rows are equal values. It is an array with a count, since nothing on the
-/// controller's side takes memory from the heap.
+/// The slots behind them hold 1, so that equal rows are equal values. It is an array with a count and no `ArrayVec`, which takes no
+/// memory from the heap either but is not `Copy`, as books are.
 #[derive(Clone, Copy, PartialEq, Eq)]
 pub struct Row {
     pub(crate) times: [u32; MOST_TIMES],

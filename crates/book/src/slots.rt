@@ -1,5 +1,5 @@
-// The slots of a table: a task put in among the first of them, and one taken out. The count of those used is a parameter, since the
-// borrow checker does not cover yet that a part of the array, `&mut tasks[..count]`, is lent on.
+// The slots of a table: a task put in among the first of them, and one taken out. The count of those used is a parameter:
+// `insert_at(&mut self.tasks[..count + 1], ..)` was tried from `Table`, and the borrow checker does not cover that function then.
 ghost use Rattle.std.specs.Prelude.{◌≡◌, ◌+◌, ◌-◌, ◌<◌, ◌≤◌, ◌∷◌, map, length, take, drop};
 ghost use Rattle.book.specs.Held.{blank, fields, period_in};
 ghost use Rattle.book.specs.Hyperperiod.{hyperperiod};

@@ -8,8 +8,8 @@ use crate::limits::MOST_TASKS;
 use crate::task::Task;
 
 /// At most sixteen tasks in ascending order of number, and the least common multiple of their periods, at most 10,000,000,000.
-/// The slots behind the tasks hold one fixed task, so that equal tables are equal values. It is an array with a count, since
-/// nothing on the controller's side takes memory from the heap.
+/// The slots behind the tasks hold one fixed task, so that equal tables are equal values. It is an array with a count and no
+/// `ArrayVec`, which takes no memory from the heap either but is not `Copy`, as books are.
 #[derive(Clone, Copy, PartialEq, Eq)]
 pub(crate) struct Table {
     pub(crate) tasks: [Task; MOST_TASKS],

@@ -92,7 +92,7 @@ impl Table {
     }
 
     /// Puts `time` at `class` of the task `number`: one record of the array is lent to be changed. It is lent by way of `tasks`,
-    /// since `self.tasks[at].amend(..)` is not proved yet.
+    /// since the check stops at `self.tasks[at].amend(..)` with a bug of its own.
     pub(crate) fn amend(&mut self, number: u8, class: usize, time: u32) -> Result<(), Refusal>
         ensures { Did records_in self.old self.new (amend_tasks number class time (records_in self.old)) result }
     {

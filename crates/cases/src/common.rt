@@ -1,13 +1,12 @@
 // What the cases share.
 use book::book::Book;
 use book::new_task::NewTask;
-use book::refusal::Refusal;
 use std::test::Fail;
 
 /// The call was refused by this, and the whole book is as it was.
-pub(crate) fn refused(
-    answer: Result<(), Refusal>,
-    by: Refusal,
+pub(crate) fn refused<E: Copy + PartialEq>(
+    answer: Result<(), E>,
+    by: E,
     before: &Book,
     after: &Book,
 ) -> Result<(), Fail> {

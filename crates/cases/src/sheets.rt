@@ -1,4 +1,5 @@
 // Loading and writing sheets.
+use crate::common;
 use crate::common::{new_task, two_tasks};
 use book::book::Book;
 use book::refusal::Refusal;
@@ -17,13 +18,8 @@ const TWO_TASKS: [u8; 51] = [
 fn refused(sheet: &[u8], refusal: Refusal, place: usize) -> Result<(), Fail> {
     let before = two_tasks()?;
     let mut book = before;
-    if load(&mut book, sheet) != Err(Fault { refusal, place }) {
-        return Err(Fail::new("another answer"));
-    }
-    if book != before {
-        return Err(Fail::new("the book is not as it was"));
-    }
-    Ok(())
+    let answer = load(&mut book, sheet);
+    common::refused(answer, Fault { refusal, place }, &before, &book)
 }
 
 #[test]

@@ -1,5 +1,5 @@
-// What a sheet holds, or why it is refused, for a person to read. Numbers are widened by `as`: `u64::from` was tried, and the check
-// then no longer finds what a line says alone.
+// What a sheet holds, or why it is refused, for a person to read. Numbers are widened by `as`: `u64::from` was tried, and the clauses
+// of a line, which the check finds alone, then stay open.
 ghost use Rattle.std.specs.Prelude.{◌≡◌, ◌+◌, ◌*◌, ◌≤◌, ◌++◌, map, length};
 ghost use Rattle.book.specs.Books.{holds};
 ghost use Rattle.book.specs.Held.{record_of};

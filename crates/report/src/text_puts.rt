@@ -1,4 +1,5 @@
 // Appending to a text. Not by `write!`: that gives a Result, and these calls cannot fail, since each says the room that it needs.
+// Numbers are widened by `as`, as in `describe`.
 ghost use Rattle.std.specs.Prelude.{◌≡◌, ◌+◌, ◌*◌, ◌≤◌, [], ◌++◌, length, decimal};
 ghost use Rattle.report.specs.Held.{HasRoom, text_in};
 ghost use Rattle.report.specs.Texts.{spaced};

@@ -7,7 +7,8 @@ ghost use Rattle.schedule.specs.Pairs.{timed_in};
 
 use crate::timed_tasks::TimedTasks;
 
-/// What is due by an instant: the work, and an instant by which all of it is due, 0 where nothing is.
+/// What is due by an instant: the work, and an instant by which all of it is due. 0 is no mark for none:
+/// by 0 no work is due, so it is such an instant where there is no work.
 #[derive(Clone, Copy)]
 struct Due {
     work: u64,

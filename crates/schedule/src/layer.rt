@@ -1,7 +1,9 @@
 // Layers: a test over any test, asking it with changed times.
-ghost use Rattle.std.specs.Prelude.{◌≡◌, ◌≤◌, map, length};
+ghost use Rattle.std.specs.Prelude.{◌≡◌, ◌≤◌, ◌↔◌, IfSome, IsSome, map, length, true};
+ghost use Rattle.book.specs.Books.{holds};
 ghost use Rattle.schedule.specs.Layers.{layered, layered_told};
 ghost use Rattle.schedule.specs.Lemmas.Layered.{layered_lawful, layered_tells};
+ghost use Rattle.schedule.specs.Timed.{well_shaped};
 
 use crate::change::{Change, change_all};
 use crate::test::Test;
@@ -28,6 +30,19 @@ fn changed_times<C: Change>(change: &C, times: &[u32]) -> ArrayVec<u32, MOST_TAS
     changed
 }
 
+impl<C: Change, T> Layer<C, T> {
+    /// The times that the test below is asked about; none where the times are no well-shaped list of the book.
+    fn beneath(&self, book: &Book, times: &[u32]) -> Option<ArrayVec<u32, MOST_TASKS>>
+        ensures shape { IsSome result ↔ (well_shaped (holds book.now).tasks times.now ≡ true) }
+        ensures changed { IfSome result (λ ys. ys.items ≡ map (C.Change.changed self.now.change) times.now) }
+    {
+        if !TimedTasks::of(book, times).is_well_shaped() {
+            return None;
+        }
+        Some(changed_times(&self.change, times))
+    }
+}
+
 impl<C: Change, T: Test> Test for Layer<C, T> {
     ghost passes = { λ layer. layered (C.Change.changed layer.change) (T.Test.passes layer.below) };
 
@@ -36,11 +51,9 @@ impl<C: Change, T: Test> Test for Layer<C, T> {
         (T.Test.passes layer.below) (T.Test.lawful layer.below) };
 
     fn ask(&self, book: &Book, times: &[u32]) -> bool {
-        let timed = TimedTasks::of(book, times);
-        if !timed.is_well_shaped() {
+        let Some(changed) = self.beneath(book, times) else {
             return false;
-        }
-        let changed = changed_times(&self.change, times);
+        };
         self.below.ask(book, changed.as_slice())
     }
 }
@@ -55,11 +68,9 @@ impl<C: Change, T: TimingTest> TimingTest for Layer<C, T> {
         (T.TimingTest.tells layer.below l keeps (map change xs) place) };
 
     fn tell(&self, book: &Book, times: &[u32], place: usize) -> Option<u32> {
-        let timed = TimedTasks::of(book, times);
-        if !timed.is_well_shaped() {
+        let Some(changed) = self.beneath(book, times) else {
             return None;
-        }
-        let changed = changed_times(&self.change, times);
+        };
         self.below.tell(book, changed.as_slice(), place)
     }
 }

@@ -8,7 +8,8 @@ ghost use Rattle.schedule.specs.Laws.{Tells};
 use crate::test::Test;
 use book::book::Book;
 
-/// A test that tells, for each task of a list that passes, a time up to the task's deadline.
+/// A test that tells, for each task of a list that passes, a time up to the task's deadline. Book and times stay apart,
+/// as in `Test`.
 pub trait TimingTest: Test {
     /// What is told to each ledger and each list of times, of the task at each place.
     ghost told: { Self → Ledger → List ℕ → ℕ → Option ℕ };

@@ -25,7 +25,7 @@ impl Reader<'_> {
         }
     }
 
-    /// What the book answers, a refusal with the reader's place.
+    /// What the book answers, a refusal with the reader's place. The closure makes the fault: with `self.fault` the clause stayed open.
     pub(crate) fn placed(&self, answer: Result<(), Refusal>) -> Result<(), Fault>
         ensures { result ≡ placed self.now.place answer }
     {

@@ -2,7 +2,7 @@
 use crate::question::{Question, TestName};
 use book::new_task::NewTask;
 
-/// A new task as a line gives it, under no rule yet.
+/// A new task as a line gives it, under no rule yet. It owns its times, which a `NewTask` only borrows.
 #[derive(Drop)]
 pub struct Entry {
     pub number: u8,

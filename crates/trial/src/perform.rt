@@ -14,7 +14,7 @@ use std::alloc::{AllocError, Global};
 /// What each byte of a buffer holds before a write, to show which of them the write leaves alone.
 const UNTOUCHED: u8 = 0xaa;
 
-/// Carries out a call. Only lists and buffers to write into take memory.
+/// Carries out a call. Only a buffer to write into and the changes of a question take memory, so heap and book stay apart.
 pub(crate) fn perform(heap: Global, book: &mut Book, call: &Call) -> Result<Answer, AllocError> {
     let answer = match call {
         Call::Make { size } => edited(book.make(*size), book),
@@ -48,7 +48,7 @@ fn edited(answer: Result<(), Refusal>, book: &Book) -> Answer {
 
 /// Writes the sheet into a new buffer; the answer shows all of it.
 fn write_sheet(heap: Global, book: &Book, length: u16) -> Result<Answer, AllocError> {
-    let mut buffer = vec![in heap; UNTOUCHED; length as usize]?;
+    let mut buffer = vec![in heap; UNTOUCHED; usize::from(length)]?;
     let result = write(book, buffer.as_mut_slice());
     Ok(Answer::Write { result, buffer })
 }

@@ -68,6 +68,7 @@ pub(crate) fn ask(
     let changes = question.changes(heap)?;
     let change = changes.as_slice();
     let times = question.times.as_slice();
+    // A name has to become a type somewhere: each test is a type of its own.
     match test {
         TestName::Fixed => Ok(over(change, FixedPriority).ask(book, times)),
         TestName::Earliest => Ok(over(change, EarliestDeadline).ask(book, times)),

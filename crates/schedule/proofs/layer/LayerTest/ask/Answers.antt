@@ -1,8 +1,8 @@
 use Rattle.schedule.specs.Lemmas.Layered.{layered_lawful}
 use Rattle.schedule.proofs.layer.LayerTest.ask.Goals as goal
 
-pub returns-then-not-is_well_shaped-clause-lawful : goal.returns-then-not-is_well_shaped-clause-lawful
-returns-then-not-is_well_shaped-clause-lawful g c =
+pub returns-in_default-clause-lawful : goal.returns-in_default-clause-lawful
+returns-in_default-clause-lawful g c =
     let layer = c.args.self.now in
     layered_lawful (g.C.Change.changed layer.change) (g.met.C.Change.keeps_order layer.change) (g.met.C.Change.never_shortens layer.change) (g.T.Test.passes layer.below)
     (g.met.T.Test.lawful layer.below)
