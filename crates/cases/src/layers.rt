@@ -2,6 +2,7 @@
 use crate::questions::book_of;
 use book::refusal::Refusal;
 use schedule::any_change::AnyChange;
+use schedule::change::Change;
 use schedule::charge::Charge;
 use schedule::earliest_deadline::EarliestDeadline;
 use schedule::fixed_priority::FixedPriority;
@@ -101,6 +102,20 @@ fn a_slice_of_changes_makes_them_in_turn(rt: HostRuntime) -> Result<(), Fail> {
     assert!(rt; bare.tell(&book, &[3], 0) == Some(3));
     assert!(rt; !bare.ask(&book, &[11]));
     Ok(())
+}
+
+#[test]
+fn a_slice_of_no_changes_caps_a_time(rt: HostRuntime) {
+    let none: [AnyChange; 0] = [];
+    let changes = &none[..];
+    for (time, changed) in [
+        (0, 0),
+        (1_000_001, 1_000_001),
+        (1_000_002, 1_000_001),
+        (u32::MAX, 1_000_001),
+    ] {
+        assert!(rt; changes.change(time) == changed);
+    }
 }
 
 #[test]

@@ -1,5 +1,7 @@
 -- A loop over tasks beside their times: what it has left at each step.
-use Rattle.std.proofs.Common.{◌≡◌, ℕ, List, [], ◌∷◌, map, Some, None, Option, Bor, refl, sym, ap, ◌∙◌, ⊎_elim}
+use Rattle.std.proofs.Common.{◌≡◌, ℕ, List, [], ◌∷◌, map, length, take, min, Some, None, Option, Bor, refl, sym, ap, ◌∙◌, ⊎_elim, ◌<◌, ◌≤◌, arith}
+use Rattle.std.proofs.lemmas.Bool.{cases_lt}
+use Rattle.std.proofs.lemmas.List.{take_all}
 use Rattle.std.proofs.lemmas.Slice.Zip.{Zip-more, either_empty_from_Zip}
 use Rattle.std.proofs.lemmas.Iterator.{zips}
 use Rattle.std.proofs.iter.Yields.{fronts}
@@ -57,3 +59,24 @@ module _ (s t : Pairs) (r : Option (Bor Task × Bor ℕ)) (step : zips fronts fr
       no_work : (ts : List TaskRecord) → work_in cycle ts [] ≡ 0
       no_work [] = refl
       no_work (k ∷ ts) = refl
+
+-- What has no partner does not count: neither list has to be longer than the other.
+pub times_cut : (ts : List Task) (xs : List ℕ) → timed (map record_of ts) (take (length ts) xs) ≡ timed (map record_of ts) xs
+times_cut [] xs = refl
+times_cut (t ∷ ts) [] = refl
+times_cut (t ∷ ts) (x ∷ xs) = ap (λ ks. record { number = t.number; period = t.period; deadline = t.deadline; time = x } ∷ ks) (times_cut ts xs)
+
+pub tasks_cut : (ts : List Task) (xs : List ℕ) → timed (map record_of (take (length xs) ts)) xs ≡ timed (map record_of ts) xs
+tasks_cut [] [] = refl
+tasks_cut [] (x ∷ xs) = refl
+tasks_cut (t ∷ ts) [] = refl
+tasks_cut (t ∷ ts) (x ∷ xs) = ap (λ ks. record { number = t.number; period = t.period; deadline = t.deadline; time = x } ∷ ks) (tasks_cut ts xs)
+
+pub both_cut : (ts : List Task) (xs : List ℕ) (n : ℕ) → n ≡ min (length ts) (length xs) → timed (map record_of (take n ts)) (take n xs) ≡ timed (map record_of ts) xs
+both_cut ts xs n is =
+    ⊎_elim
+    (λ (l : length ts < length xs). let e : n ≡ length ts = omega (arith, l) in
+    ap (λ us. timed (map record_of us) (take n xs)) (take_all n ts (omega arith)) ∙ ap (λ m. timed (map record_of ts) (take m xs)) e ∙ times_cut ts xs)
+    (λ (l : length xs ≤ length ts). let e : n ≡ length xs = omega (arith, l) in
+    ap (λ ys. timed (map record_of (take n ts)) ys) (take_all n xs (omega arith)) ∙ ap (λ m. timed (map record_of (take m ts)) xs) e ∙ tasks_cut ts xs)
+    (cases_lt (length ts) (length xs))

@@ -1,5 +1,5 @@
 // Layers: a test over any test, asking it with changed times.
-ghost use Rattle.std.specs.Prelude.{◌≡◌, ◌≤◌, ◌↔◌, IfSome, IsSome, map, length, true};
+ghost use Rattle.std.specs.Prelude.{◌≡◌, ◌≤◌, map, length, true, []};
 ghost use Rattle.book.specs.Books.{holds};
 ghost use Rattle.schedule.specs.Layers.{layered, layered_told};
 ghost use Rattle.schedule.specs.Lemmas.Layered.{layered_lawful, layered_tells};
@@ -20,26 +20,35 @@ pub struct Layer<C, T> {
     pub below: T,
 }
 
-/// The changed times. They have room: there is one for each task of a book.
-fn changed_times<C: Change>(change: &C, times: &[u32]) -> ArrayVec<u32, MOST_TASKS>
-    requires { length times.now ≤ 16 }
-    ensures { result.items ≡ map (C.Change.changed change.now) times.now }
+/// Puts the changed times into an empty vector. They have room: there is one for each task of a book. The vector is lent, since
+/// handing one up by value in an option made questions about few tasks take half as long again.
+fn change_into<C: Change>(change: &C, times: &[u32], changed: &mut ArrayVec<u32, MOST_TASKS>)
+    requires few { length times.now ≤ 16 }
+    requires empty { changed.old.items ≡ [] }
+    ensures { changed.new.items ≡ map (C.Change.changed change.now) times.now }
 {
-    let mut changed = ArrayVec::try_from(times).unwrap();
+    changed.try_extend_from_slice(times).unwrap();
     change_all(change, changed.as_mut_slice());
-    changed
 }
 
 impl<C: Change, T> Layer<C, T> {
-    /// The times that the test below is asked about; none where the times are no well-shaped list of the book.
-    fn beneath(&self, book: &Book, times: &[u32]) -> Option<ArrayVec<u32, MOST_TASKS>>
-        ensures shape { IsSome result ↔ (well_shaped (holds book.now).tasks times.now ≡ true) }
-        ensures changed { IfSome result (λ ys. ys.items ≡ map (C.Change.changed self.now.change) times.now) }
+    /// Puts the times that the test below is asked about into an empty vector; or says that the times are no well-shaped list of
+    /// the book.
+    fn hand_below(
+        &self,
+        book: &Book,
+        times: &[u32],
+        changed: &mut ArrayVec<u32, MOST_TASKS>,
+    ) -> bool
+        requires empty { changed.old.items ≡ [] }
+        ensures shape { result ≡ well_shaped (holds book.now).tasks times.now }
+        ensures changed { result ≡ true → changed.new.items ≡ map (C.Change.changed self.now.change) times.now }
     {
         if !TimedTasks::of(book, times).is_well_shaped() {
-            return None;
+            return false;
         }
-        Some(changed_times(&self.change, times))
+        change_into(&self.change, times, changed);
+        true
     }
 }
 
@@ -51,9 +60,10 @@ impl<C: Change, T: Test> Test for Layer<C, T> {
         (T.Test.passes layer.below) (T.Test.lawful layer.below) };
 
     fn ask(&self, book: &Book, times: &[u32]) -> bool {
-        let Some(changed) = self.beneath(book, times) else {
+        let mut changed = ArrayVec::new();
+        if !self.hand_below(book, times, &mut changed) {
             return false;
-        };
+        }
         self.below.ask(book, changed.as_slice())
     }
 }
@@ -68,9 +78,10 @@ impl<C: Change, T: TimingTest> TimingTest for Layer<C, T> {
         (T.TimingTest.tells layer.below l keeps (map change xs) place) };
 
     fn tell(&self, book: &Book, times: &[u32], place: usize) -> Option<u32> {
-        let Some(changed) = self.beneath(book, times) else {
+        let mut changed = ArrayVec::new();
+        if !self.hand_below(book, times, &mut changed) {
             return None;
-        };
+        }
         self.below.tell(book, changed.as_slice(), place)
     }
 }

@@ -14,10 +14,16 @@ impl TimedTasks<'_> {
             (own + requested (timed_in self.entry) t) }
     {
         let mut sum = own;
-        for (task, time) in self.tasks.iter().zip(self.times) {
+        let pairs = self.paired();
+        for (task, time) in pairs.tasks.iter().zip(pairs.times) {
+            // In 128 bits, where nothing overflows, so that one test serves product and sum. The search spends its time here, and
+            // is the slower for a checked product, which is made twice, and for `u64::try_from`.
             let jobs = t.div_ceil(u64::from(task.period));
-            let work = jobs.checked_mul(u64::from(*time))?;
-            sum = sum.checked_add(work)?;
+            let more = u128::from(sum) + u128::from(jobs) * u128::from(*time);
+            if more > u128::from(u64::MAX) {
+                return None;
+            }
+            sum = more as u64;
         }
         Some(sum)
     }

@@ -2,7 +2,7 @@
 ghost use Rattle.std.specs.Prelude.{◌≡◌};
 ghost use Rattle.book.specs.Books.{holds};
 ghost use Rattle.book.specs.Keeping.{KeepsRules};
-ghost use Rattle.schedule.specs.Pairs.{tasks_in};
+ghost use Rattle.schedule.specs.Pairs.{tasks_in, timed_in};
 
 use book::book::Book;
 use book::task::Task;
@@ -24,6 +24,17 @@ impl<'a> TimedTasks<'a> {
         TimedTasks {
             tasks: book.tasks(),
             times,
+        }
+    }
+
+    /// The pairs alone, both slices cut to one length: so a loop over them has one end to look for.
+    pub(crate) fn paired(self) -> TimedTasks<'a>
+        ensures { timed_in result ≡ timed_in self.entry }
+    {
+        let count = self.tasks.len().min(self.times.len());
+        TimedTasks {
+            tasks: &self.tasks[..count],
+            times: &self.times[..count],
         }
     }
 }
