@@ -1,7 +1,7 @@
 // Reading a line of a script: the name of a call and its arguments, in words.
 use crate::call::{Call, Entry};
 use crate::parse_question::{ask, tell};
-use hex::{FromHexError, decode_to_slice};
+use hex::{FromHex, FromHexError};
 use std::alloc::{AllocError, Global};
 use std::num::ParseIntError;
 use std::str::{Utf8Error, from_utf8};
@@ -77,9 +77,11 @@ fn entry(heap: Global, fields: &[&str]) -> Result<Entry, Unread> {
 fn bytes(heap: Global, words: &[&str]) -> Result<Vec<u8>, Unread> {
     let mut bytes = Vec::new(heap);
     for word in words {
-        let mut part = vec![in heap; 0; word.len() / 2]?;
-        decode_to_slice(*word, part.as_mut_slice())?;
-        bytes.append(&mut part)?;
+        // Byte by byte: memory is taken for the bytes that were read, and not beforehand for all that a long word may have.
+        for digits in word.as_bytes().chunks(2) {
+            let [byte] = <[u8; 1]>::from_hex(digits)?;
+            bytes.push(byte)?;
+        }
     }
     Ok(bytes)
 }

@@ -66,12 +66,12 @@ pub(crate) fn ask(
     question: &Question,
 ) -> Result<bool, Failure> {
     let changes = question.changes(heap)?;
-    let change = changes.as_slice();
+    let changes = changes.as_slice();
     let times = question.times.as_slice();
     // A name has to become a type somewhere: each test is a type of its own.
     match test {
-        TestName::Fixed => Ok(over(change, FixedPriority).ask(book, times)),
-        TestName::Earliest => Ok(over(change, EarliestDeadline).ask(book, times)),
+        TestName::Fixed => Ok(ask_beneath(changes, FixedPriority, book, times)),
+        TestName::Earliest => Ok(ask_beneath(changes, EarliestDeadline, book, times)),
     }
 }
 
@@ -83,11 +83,41 @@ pub(crate) fn tell(
     question: &Question,
 ) -> Result<Option<u32>, Failure> {
     let changes = question.changes(heap)?;
+    let changes = changes.as_slice();
     let times = question.times.as_slice();
-    Ok(over(changes.as_slice(), FixedPriority).tell(book, times, place as usize))
+    Ok(tell_beneath(changes, FixedPriority, book, times, place as usize))
 }
 
-/// The layers over a test, as one layer that makes their changes in turn.
-fn over<T>(change: &[AnyChange], below: T) -> Layer<&[AnyChange], T> {
+/// One more layer.
+fn over<C, T>(change: C, below: T) -> Layer<C, T> {
     Layer { change, below }
+}
+
+/// Asks any test beneath the changes. The outer two are layers by themselves, over one that makes the others in turn, if any: so the
+/// model is held against bare tests, layers over layers and slices of changes, each of which whoever uses the tests may write.
+fn ask_beneath<T: Test + Copy>(changes: &[AnyChange], test: T, book: &Book, times: &[u32]) -> bool {
+    match changes {
+        [] => test.ask(book, times),
+        [only] => over(*only, test).ask(book, times),
+        [outer, second, others @ ..] => {
+            over(*outer, over(*second, over(others, test))).ask(book, times)
+        }
+    }
+}
+
+/// Has any timing test tell beneath the changes, in the same way.
+fn tell_beneath<T: TimingTest + Copy>(
+    changes: &[AnyChange],
+    test: T,
+    book: &Book,
+    times: &[u32],
+    place: usize,
+) -> Option<u32> {
+    match changes {
+        [] => test.tell(book, times, place),
+        [only] => over(*only, test).tell(book, times, place),
+        [outer, second, others @ ..] => {
+            over(*outer, over(*second, over(others, test))).tell(book, times, place)
+        }
+    }
 }
